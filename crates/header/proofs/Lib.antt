@@ -1,0 +1,2 @@
+-- Laws of the locks' cells.
+mod Cells

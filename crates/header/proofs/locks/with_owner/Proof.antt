@@ -1,0 +1,25 @@
+use native.Mathlib.Omega.{arith}
+use borrow.Author.Needs.{needs}
+use Rattle.header.proofs.locks.with_owner.Statement.{statement}
+use Rattle.header.proofs.locks.with_owner.Tie as tie
+use Rattle.header.proofs.locks.with_owner.Reads as reads
+use Rattle.header.proofs.locks.with_owner.Lts as lts
+
+-- src/locks.rt:35:13
+enum-told : tie.Need-enum-told
+enum-told c = search needs
+
+-- src/locks.rt:39:13
+enum-told-2 : tie.Need-enum-told-2
+enum-told-2 c = search needs
+
+-- src/locks.rt:29:1
+returns : tie.Need-returns
+returns c = rw (c .enum-told .given .1)
+
+-- src/locks.rt:29:1
+returns-2 : tie.Need-returns-2
+returns-2 c = rw (c .enum-told2 .given .1)
+
+pub with-owner-spec : {M : Type 1} → statement M
+with-owner-spec = tie.close (tie.spec enum-told enum-told-2 returns returns-2)

@@ -1,0 +1,18 @@
+use Rattle.header.specs.Publish.{bump-checkpoint-seq}
+use native.Mathlib.Omega.{arith}
+use borrow.Author.Needs.{needs}
+use Rattle.header.proofs.publish.bump_checkpoint_seq.Statement.{statement}
+use Rattle.header.proofs.publish.bump_checkpoint_seq.Tie as tie
+use Rattle.header.proofs.publish.bump_checkpoint_seq.Reads as reads
+use Rattle.header.proofs.publish.bump_checkpoint_seq.Lts as lts
+use Rattle.std.proofs.num.wrapping_add_u32.Reads as wrapping-add-u32-reads
+
+wrapping-add-u32-requires : tie.Need-wrapping-add-u32-requires
+wrapping-add-u32-requires c κs = search needs
+
+returns : tie.Need-returns
+unfolding bump-checkpoint-seq
+returns c z p = rw (c .wrapping-add-u32 .ensures)
+
+pub bump-checkpoint-seq-spec : {M : Type 1} → statement M
+bump-checkpoint-seq-spec = tie.close (tie.spec wrapping-add-u32-requires returns)

@@ -1,0 +1,3 @@
+-- The calls on the header: publishes and bumps, then the two locks.
+pub mod Publish
+pub mod Locks

@@ -1,0 +1,43 @@
+-- The reply of an index call tells what the call's contract says. Assumes nothing.
+use mathlib.Core.Path.{_≡_, refl}
+use mathlib.Core.List.{List}
+use Prim.Native.Nat.{ℕ}
+use Rattle.wal_types.specs.declared.Header.{Header}
+use Rattle.wal_types.specs.Memory.{Memory, Process}
+use Rattle.wal_types.specs.Call.{Call, Done}
+use Rattle.frame_index.specs.declared.record.Record.{Record}
+use Rattle.frame_index.specs.declared.record.Record.the-variants.{Stored, Dropped, Refused as RecordRefused}
+use Rattle.frame_index.specs.declared.rollback.Rollback.{Rollback}
+use Rattle.frame_index.specs.declared.rollback.Rollback.the-variants.{Kept, Refused as RollbackRefused}
+use Rattle.frame_index.specs.declared.find.Found.{Found}
+use Rattle.frame_index.specs.declared.find.Found.the-variants.{Frame, NoFrame, Refused as FindRefused}
+use Rattle.frame_index.specs.Index.{IndexCall}
+use Rattle.frame_index.specs.Record.{record-answer, record-header}
+use Rattle.frame_index.specs.Rollback.{rollback-answer, rollback-header}
+use Rattle.frame_index.specs.Find.{found-answer}
+use Rattle.wal_coordination.specs.declared.index_calls.IndexReply.{IndexReply}
+use Rattle.wal_coordination.specs.declared.index_calls.FindReply.{FindReply}
+use Rattle.wal_coordination.specs.IndexReply.{record-reply, rollback-reply, find-reply, Told, IndexReplied, FindTold, FindReplied}
+
+-- what a reply tells of one outcome it tells of its equal
+told-by : (r : IndexReply) (z : Memory) (ps fs hs : List ℕ) (p : Process) {d e : Done} → d ≡ e → Told r z ps fs hs p e → Told r z ps fs hs p d
+told-by r z ps fs hs p q t = rw q t
+
+find-told-by : (r : FindReply) (z : Memory) (h : Header) (ps fs hs : List ℕ) (p : Process) {d e : Done} → d ≡ e → FindTold r z h ps fs hs p e → FindTold r z h ps fs hs p d
+find-told-by r z h ps fs hs p q t = rw q t
+
+module _ (call : Call) (h : Header) (ps fs hs ps′ fs′ hs′ : List ℕ) where
+  pub record-told : (a : Record) → IndexCall call h ps fs hs (record-answer a) (record-header h a) ps′ fs′ hs′ → IndexReplied call h ps fs hs (record-reply a h) ps′ fs′ hs′
+  record-told (Stored next) e z p = told-by _ z _ _ _ p (e z p) (record { refusal-told = refl; answer-told = refl; memory-left = refl; process-left = refl })
+  record-told (Dropped next) e z p = told-by _ z _ _ _ p (e z p) (record { refusal-told = refl; answer-told = refl; memory-left = refl; process-left = refl })
+  record-told (RecordRefused n) e z p = told-by _ z _ _ _ p (e z p) (record { refusal-told = refl; answer-told = refl; memory-left = refl; process-left = refl })
+
+  pub rollback-told : (a : Rollback) → IndexCall call h ps fs hs (rollback-answer a) (rollback-header h a) ps′ fs′ hs′ → IndexReplied call h ps fs hs (rollback-reply a h) ps′ fs′ hs′
+  rollback-told (Kept next) e z p = told-by _ z _ _ _ p (e z p) (record { refusal-told = refl; answer-told = refl; memory-left = refl; process-left = refl })
+  rollback-told (RollbackRefused n) e z p = told-by _ z _ _ _ p (e z p) (record { refusal-told = refl; answer-told = refl; memory-left = refl; process-left = refl })
+
+module _ (call : Call) (h : Header) (ps fs hs : List ℕ) where
+  pub find-told : (a : Found) → IndexCall call h ps fs hs (found-answer a) h ps fs hs → FindReplied call h ps fs hs (find-reply a)
+  find-told (Frame f) e z p = find-told-by _ z h _ _ _ p (e z p) (record { refusal-told = refl; found-told = refl; frame-told = refl; memory-left = refl; process-left = refl })
+  find-told NoFrame e z p = find-told-by _ z h _ _ _ p (e z p) (record { refusal-told = refl; found-told = refl; frame-told = refl; memory-left = refl; process-left = refl })
+  find-told (FindRefused n) e z p = find-told-by _ z h _ _ _ p (e z p) (record { refusal-told = refl; found-told = refl; frame-told = refl; memory-left = refl; process-left = refl })

@@ -1,0 +1,78 @@
+-- The index calls' replies. Assumes nothing.
+use mathlib.Core.Path.{_≡_}
+use mathlib.Core.Bool.{cond}
+use mathlib.Core.List.{List}
+use Prim.Native.Nat.{ℕ}
+use lib.Dec.{eqb}
+use Rattle.wal_types.specs.declared.Header.{Header}
+use Rattle.wal_types.specs.Memory.{Memory, Process}
+use Rattle.wal_types.specs.Call.{Call, Answer, refused, ok, flag, value, stored, dropped, kept, frame-found, none, listed, slot-taken, Done, after}
+use Rattle.frame_index.specs.declared.record.Record.{Record}
+use Rattle.frame_index.specs.declared.record.Record.the-variants.{Stored, Dropped, Refused as RecordRefused}
+use Rattle.frame_index.specs.declared.rollback.Rollback.{Rollback}
+use Rattle.frame_index.specs.declared.rollback.Rollback.the-variants.{Kept, Refused as RollbackRefused}
+use Rattle.frame_index.specs.declared.find.Found.{Found}
+use Rattle.frame_index.specs.declared.find.Found.the-variants.{Frame, NoFrame, Refused as FindRefused}
+use Rattle.frame_index.specs.declared.find.Watermark.{Watermark}
+use Rattle.frame_index.specs.declared.find.Watermark.the-variants.{UpTo, NoWatermark}
+use Rattle.frame_index.specs.Index.{index-in}
+use Rattle.wal_coordination.specs.declared.index_calls.IndexReply.{IndexReply}
+use Rattle.wal_coordination.specs.declared.index_calls.FindReply.{FindReply}
+use Rattle.wal_coordination.specs.Reply.{refusal-number, answer-number}
+
+-- The reply of each case of an answer, with the header that was given.
+abbrev pub record-reply : Record → Header → IndexReply
+record-reply (Stored next) h = record { refusal = 0; answer = 1; header = next }
+record-reply (Dropped next) h = record { refusal = 0; answer = 0; header = next }
+record-reply (RecordRefused n) h = record { refusal = n; answer = 0; header = h }
+
+abbrev pub rollback-reply : Rollback → Header → IndexReply
+rollback-reply (Kept next) h = record { refusal = 0; answer = next .«frame_index_len»; header = next }
+rollback-reply (RollbackRefused n) h = record { refusal = n; answer = 0; header = h }
+
+abbrev pub find-reply : Found → FindReply
+find-reply (Frame f) = record { refusal = 0; found = 1; frame = f }
+find-reply NoFrame = record { refusal = 0; found = 0; frame = 0 }
+find-reply (FindRefused n) = record { refusal = n; found = 0; frame = 0 }
+
+-- The reply tells what the call answers, the header and index are as it leaves them, and nothing else changes.
+pub record Told (r : IndexReply) (z : Memory) (ps fs hs : List ℕ) (p : Process) (d : Done) : Type 0 where
+  pub refusal-told : r .refusal ≡ refusal-number (d .answer)
+  pub answer-told : r .answer ≡ answer-number (d .answer)
+  pub memory-left : d .memory ≡ index-in z (r .header) ps fs hs
+  pub process-left : d .process ≡ p
+
+-- So it is on any memory with this header and index in it, by any process.
+abbrev pub IndexReplied : Call → Header → List ℕ → List ℕ → List ℕ → IndexReply → List ℕ → List ℕ → List ℕ → Type 0
+IndexReplied call h ps fs hs r ps′ fs′ hs′ =
+    (z : Memory) (p : Process) → Told r z ps′ fs′ hs′ p (after call (index-in z h ps fs hs) p)
+
+-- The watermark of two numbers: none if the first is 0.
+unfoldable pub watermark-given : ℕ → ℕ → Watermark
+watermark-given has w = cond (eqb has 0) NoWatermark (UpTo w)
+
+-- 1 where a frame was found
+abbrev pub found-number : Answer → ℕ
+found-number (refused n) = 0
+found-number ok = 0
+found-number (flag b) = 0
+found-number (value n) = 0
+found-number stored = 0
+found-number dropped = 0
+found-number (kept n) = 0
+found-number (frame-found f) = 1
+found-number none = 0
+found-number (listed pairs) = 0
+found-number (slot-taken i o mark) = 0
+
+-- A lookup's reply, on any memory with this header and index in it, by any process; nothing changes.
+pub record FindTold (r : FindReply) (z : Memory) (h : Header) (ps fs hs : List ℕ) (p : Process) (d : Done) : Type 0 where
+  pub refusal-told : r .refusal ≡ refusal-number (d .answer)
+  pub found-told : r .found ≡ found-number (d .answer)
+  pub frame-told : r .frame ≡ answer-number (d .answer)
+  pub memory-left : d .memory ≡ index-in z h ps fs hs
+  pub process-left : d .process ≡ p
+
+abbrev pub FindReplied : Call → Header → List ℕ → List ℕ → List ℕ → FindReply → Type 0
+FindReplied call h ps fs hs r =
+    (z : Memory) (p : Process) → FindTold r z h ps fs hs p (after call (index-in z h ps fs hs) p)

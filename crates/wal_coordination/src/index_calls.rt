@@ -1,0 +1,190 @@
+// The calls on the frame index.
+use frame_index::find;
+use frame_index::find::Found;
+use frame_index::find::Watermark;
+use frame_index::record;
+use frame_index::record::Record;
+use frame_index::rollback;
+use frame_index::rollback::Rollback;
+use wal_types::Header;
+ghost use mathlib.Core.Path.{_≡_};
+ghost use mathlib.Core.Bool.{not};
+ghost use lib.Dec.{eqb};
+ghost use Rattle.frame_index.specs.Record.{record-frame};
+ghost use Rattle.frame_index.specs.Rollback.{rollback-frames};
+ghost use Rattle.frame_index.specs.Find.{find-frame};
+ghost use Rattle.wal_coordination.specs.IndexReply.{record-reply, rollback-reply, find-reply, IndexReplied, watermark-given, FindReplied};
+
+// The answer of a record or a rollback in numbers. refusal: 0, or the number of the refusal. answer: 1 stored, 0 dropped;
+// for a rollback the kept length. header is as the call leaves it: after a refusal, as it was given.
+#[repr(C)]
+pub struct IndexReply {
+    pub refusal: u32,
+    pub answer: u32,
+    pub header: Header,
+}
+
+// The answer of a lookup in numbers. found: 1 if there is a frame.
+#[repr(C)]
+pub struct FindReply {
+    pub refusal: u32,
+    pub found: u32,
+    pub frame: u64,
+}
+
+fn recorded(answer: Record, header: Header) -> IndexReply
+    ensures { λ r. ⌜ r ≡ record-reply answer header ⌝ }
+{
+    match answer {
+        Record::Stored(next) => IndexReply {
+            refusal: 0,
+            answer: 1,
+            header: next,
+        },
+        Record::Dropped(next) => IndexReply {
+            refusal: 0,
+            answer: 0,
+            header: next,
+        },
+        Record::Refused(number) => IndexReply {
+            refusal: number,
+            answer: 0,
+            header: header,
+        },
+    }
+}
+
+fn rolled_back(answer: Rollback, header: Header) -> IndexReply
+    ensures { λ r. ⌜ r ≡ rollback-reply answer header ⌝ }
+{
+    match answer {
+        Rollback::Kept(next) => IndexReply {
+            refusal: 0,
+            answer: next.frame_index_len,
+            header: next,
+        },
+        Rollback::Refused(number) => IndexReply {
+            refusal: number,
+            answer: 0,
+            header: header,
+        },
+    }
+}
+
+fn looked_up(answer: Found) -> FindReply
+    ensures { λ r. ⌜ r ≡ find-reply answer ⌝ }
+{
+    match answer {
+        Found::Frame(frame) => FindReply {
+            refusal: 0,
+            found: 1,
+            frame: frame,
+        },
+        Found::NoFrame => FindReply {
+            refusal: 0,
+            found: 0,
+            frame: 0,
+        },
+        Found::Refused(number) => FindReply {
+            refusal: number,
+            found: 0,
+            frame: 0,
+        },
+    }
+}
+
+fn watermark_of(has_watermark: u32, watermark: u64) -> Watermark
+    ensures { λ r. ⌜ r ≡ watermark-given «has_watermark» watermark ⌝ }
+{
+    if has_watermark == 0 {
+        return Watermark::NoWatermark;
+    }
+    Watermark::UpTo(watermark)
+}
+
+// Appends the entry (page_id, frame_id). grow is the file's answer to a growth by one block: 0 no, else yes.
+#[no_mangle]
+pub extern "C" fn wal_record_frame(
+    capacity: u32,
+    max_blocks: u32,
+    header: Header,
+    pages: &mut [u64],
+    frames: &mut [u64],
+    hash: &mut [u16],
+    page_id: u64,
+    frame_id: u64,
+    grow: u32,
+) -> IndexReply
+    ensures { λ r. ⌜ IndexReplied (record-frame capacity «max_blocks» «page_id» «frame_id» (not (eqb grow 0))) header (now (pages .entry)) (now (frames .entry)) (now (hash .entry)) r (now (pages .exit)) (now (frames .exit)) (now (hash .exit)) ⌝ }
+{
+    let answer = record::record_frame(
+        capacity,
+        max_blocks,
+        header,
+        pages,
+        frames,
+        hash,
+        page_id,
+        frame_id,
+        grow != 0,
+    );
+    recorded(answer, header)
+}
+
+// Drops the entries from the end whose frame is above max_frame.
+#[no_mangle]
+pub extern "C" fn wal_rollback_frames(
+    capacity: u32,
+    max_blocks: u32,
+    header: Header,
+    pages: &[u64],
+    frames: &[u64],
+    hash: &mut [u16],
+    max_frame: u64,
+) -> IndexReply
+    ensures { λ r. ⌜ IndexReplied (rollback-frames capacity «max_blocks» «max_frame») header (now (pages .entry)) (now (frames .entry)) (now (hash .entry)) r (now (pages .entry)) (now (frames .entry)) (now (hash .exit)) ⌝ }
+{
+    let answer = rollback::rollback_frames(
+        capacity,
+        max_blocks,
+        header,
+        pages,
+        frames,
+        hash,
+        max_frame,
+    );
+    rolled_back(answer, header)
+}
+
+// Looks up the latest frame of a page. has_watermark: 0 if there is none, else watermark is it.
+#[no_mangle]
+pub extern "C" fn wal_find_frame(
+    capacity: u32,
+    max_blocks: u32,
+    header: Header,
+    pages: &[u64],
+    frames: &[u64],
+    hash: &[u16],
+    page_id: u64,
+    min_frame: u64,
+    max_frame: u64,
+    has_watermark: u32,
+    watermark: u64,
+) -> FindReply
+    ensures { λ r. ⌜ FindReplied (find-frame capacity «max_blocks» «page_id» «min_frame» «max_frame» (watermark-given «has_watermark» watermark)) header (now (pages .entry)) (now (frames .entry)) (now (hash .entry)) r ⌝ }
+{
+    let frame_watermark = watermark_of(has_watermark, watermark);
+    let answer = find::find_frame(
+        capacity,
+        max_blocks,
+        header,
+        pages,
+        frames,
+        hash,
+        page_id,
+        min_frame,
+        max_frame,
+        frame_watermark,
+    );
+    looked_up(answer)
+}

@@ -1,0 +1,3 @@
+-- Laws of stores and refusals that all calls share.
+pub mod Stores
+pub mod Refusals

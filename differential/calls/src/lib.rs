@@ -1,0 +1,15 @@
+//! Sequences of calls on the port and on the Rust, and their comparison.
+//!
+//! - `memory`: the cells that a call may read or write, and their dump.
+//! - `script`: the lines of a call script.
+//! - `sides`: what the port and the Rust each have to offer.
+//! - `refusals`: document 01's table of refusals.
+//! - `session`: one script on one side or on both, with every cell compared after each call.
+//! - `random`: scripts of its own making, and the shortest one that shows a difference.
+
+pub mod memory;
+pub mod random;
+pub mod refusals;
+pub mod script;
+pub mod session;
+pub mod sides;

@@ -1,0 +1,233 @@
+//! Scripts of the tool's own making, aimed at the corners of document 01.
+
+mod dice;
+mod header;
+mod index;
+mod readers;
+
+use crate::memory::{Memory, Settings, View, LINUX_OFD, PROCESS_SCOPED_FCNTL};
+use crate::script::{Call, Line, New, PARTS};
+use crate::session::{Difference, Session, Sides};
+use crate::sides::{Given, Lent};
+use dice::Dice;
+use std::time::{Duration, Instant};
+
+/// What a run of random scripts came to.
+pub struct Tally {
+    pub calls: u64,
+    pub refused: u64,
+}
+
+/// A difference, with the shortest script found that shows it.
+pub struct Found {
+    pub script: Vec<Line>,
+    pub difference: Box<Difference>,
+}
+
+/// Runs scripts made from the seed until they are through or one shows a difference. `each` gets every script.
+pub fn run(sides: Sides, seed: u64, sequences: u64, mut each: impl FnMut(&[Line])) -> Result<Tally, Found> {
+    let families = Family::offered(&sides);
+    let mut tally = Tally { calls: 0, refused: 0 };
+    for sequence in 0..sequences {
+        let mut maker = Maker { dice: Dice::new(seed, sequence), families: &families, family: Family::Header };
+        let mut session = Session::new(sides);
+        let mut script = Vec::new();
+        for line in maker.opening() {
+            step(line, &mut session, &mut script, sides)?;
+        }
+        for _ in 0..maker.dice.between(5, 70) {
+            let line = maker.line(&session);
+            step(line, &mut session, &mut script, sides)?;
+        }
+        each(&script);
+        tally.calls += session.calls;
+        tally.refused += session.refused;
+    }
+    Ok(tally)
+}
+
+/// Adds a line to the script and makes it.
+fn step(line: Line, session: &mut Session, script: &mut Vec<Line>, sides: Sides) -> Result<(), Found> {
+    let made = session.step(&line);
+    script.push(line);
+    made.map(|_| ()).map_err(|_| shortest(sides, std::mem::take(script)))
+}
+
+/// How long a failing script is shortened.
+const SHORTENING: Duration = Duration::from_secs(20);
+
+/// Drops lines, many at once and then fewer, as long as a difference is left.
+fn shortest(sides: Sides, mut script: Vec<Line>) -> Found {
+    let end = Instant::now() + SHORTENING;
+    let mut difference = fails(sides, &script).expect("the script shows a difference");
+    let mut drop = script.len() / 2;
+    while drop > 0 {
+        let mut at = 0;
+        let before = script.len();
+        while at < script.len() && Instant::now() < end {
+            let shorter: Vec<Line> = script
+                .iter()
+                .enumerate()
+                .filter(|(i, _)| !(at..at + drop).contains(i))
+                .map(|(_, l)| l.clone())
+                .collect();
+            match fails(sides, &shorter) {
+                Some(found) => (script, difference) = (shorter, found),
+                None => at += drop,
+            }
+        }
+        if drop > 1 || script.len() == before {
+            drop /= 2;
+        }
+    }
+    Found { script, difference }
+}
+
+fn fails(sides: Sides, script: &[Line]) -> Option<Box<Difference>> {
+    let mut session = Session::new(sides);
+    script.iter().find_map(|line| session.step(line).err())
+}
+
+#[derive(Clone, Copy, Debug, PartialEq, Eq)]
+enum Family {
+    /// Publishes, bumps and the two locks.
+    Header,
+    /// Record, rollback, lookup and list.
+    Index,
+    /// Slots, floor and copy-back limit.
+    Readers,
+    /// The shared marks.
+    Shared,
+}
+
+impl Family {
+    /// The families that a script can be made of: those whose calls the port has.
+    fn offered(sides: &Sides) -> Vec<Self> {
+        let examples = [
+            (Self::Header, Call::BumpCheckpointSeq),
+            (Self::Index, Call::RecordFrame { page: 1, frame: 1, grow: false }),
+            (Self::Readers, Call::RegisterReader { owner: 1, mark: 1, card: vec![1] }),
+            (Self::Shared, Call::RegisterReaderForSnapshot { owner: 1, mark: 1, card: vec![1] }),
+        ];
+        let has = |call: &Call| {
+            let settings = Settings { capacity: 1, max_blocks: 1, slots: 1, mode: LINUX_OFD };
+            let mut memory = Memory::fresh(&settings, 1, 1);
+            let given = Given { memory: &mut memory, process: 0, settings, lent: Lent::default() };
+            sides.port.is_none_or(|port| port.call(given, call).is_some())
+        };
+        examples.into_iter().filter(|(_, call)| has(call)).map(|(family, _)| family).collect()
+    }
+}
+
+/// Makes one script.
+struct Maker<'a> {
+    dice: Dice,
+    families: &'a [Family],
+    /// The family that most lines are of.
+    family: Family,
+}
+
+impl Maker<'_> {
+    /// `new`, and often an index that is filled already.
+    fn opening(&mut self) -> Vec<Line> {
+        self.family = self.dice.of(self.families);
+        let mode = self.dice.of(&[LINUX_OFD, PROCESS_SCOPED_FCNTL]);
+        let processes = self.dice.of(&[1, 1, 2, 3]);
+        let (mut capacity, mut max_blocks, mut slots) = (self.dice.of(&[1, 8, 4096, 65_536]), 1, 1);
+        match self.family {
+            Family::Header => slots = self.dice.between(1, 4) as u32,
+            Family::Index => {
+                max_blocks = self.dice.of(&[1, 1, 1, 1, 2, 2, 2, 3, 3, 4, 4, 16]);
+                capacity = match max_blocks {
+                    2.. if !self.dice.one_in(3) => self.dice.of(&[65_536, 65_535, max_blocks * 4096]),
+                    _ => self.dice.of(&[1, 2, 3, 17, 4095, 4096, 4097, 8192, 8193, 12_289, 65_535, 65_536]),
+                };
+            }
+            Family::Readers | Family::Shared => {
+                slots = self.dice.of(&[1, 2, 3, 3, 4, 5, 8, 63, 64, 65, 127, 128, 129, 150, 161, 192, 255, 256]);
+            }
+        }
+        let start_blocks = self.dice.between(0, max_blocks.into()) as u32;
+        let settings = Settings { capacity, max_blocks, slots, mode };
+        let mut lines = vec![Line::New(New { settings, start_blocks, processes })];
+        if self.family == Family::Index {
+            match self.dice.below(40) {
+                0 => self.crowding(&mut lines),
+                1..=20 => self.filling(&settings, &mut lines),
+                _ => {}
+            }
+        }
+        lines
+    }
+
+    fn line(&mut self, session: &Session) -> Line {
+        let view = session.view().expect("a script opens with new");
+        let settings = session.settings().expect("a script opens with new");
+        let fitting = Settings {
+            capacity: settings.capacity.clamp(1, 65_536),
+            max_blocks: view.room_blocks() as u32,
+            slots: view.slots().frames.len() as u32,
+            mode: settings.mode.min(PROCESS_SCOPED_FCNTL),
+        };
+        if *settings != fitting && self.dice.one_in(10) {
+            return Line::Settings(fitting);
+        }
+        if self.dice.one_in(40) {
+            return self.settings_or_loan(fitting);
+        }
+        let family = if self.dice.one_in(8) { self.dice.of(self.families) } else { self.family };
+        match family {
+            Family::Header => self.header_line(view),
+            Family::Index => self.index_line(view, settings),
+            Family::Readers => self.reader_line(view, settings),
+            Family::Shared => self.shared_line(view, settings),
+        }
+    }
+
+    /// Settings and loans, bad ones too, by those that fit the memory.
+    fn settings_or_loan(&mut self, fitting: Settings) -> Line {
+        match self.dice.below(8) {
+            0 => {
+                let capacity = self.dice.of(&[0, 1, 5, 4096, 65_536, 65_537, u32::MAX]);
+                Line::Settings(Settings { capacity, ..fitting })
+            }
+            1 => Line::Settings(Settings { max_blocks: self.dice.of(&[0, 1, 2, 16, 17, u32::MAX]), ..fitting }),
+            2 => Line::Settings(Settings { slots: self.dice.of(&[0, 1, 2, 64, 65, 256, 257, u32::MAX]), ..fitting }),
+            3 => Line::Settings(Settings { mode: self.dice.of(&[0, 1, 2, 3, u32::MAX]), ..fitting }),
+            4 | 5 => {
+                let part = self.dice.of(&PARTS).1;
+                let most = if self.dice.one_in(2) { 9 } else { 9000 };
+                Line::Lend { part, count: Some(self.dice.below(most)) }
+            }
+            _ => Line::Lend { part: self.dice.of(&PARTS).1, count: None },
+        }
+    }
+
+    fn process(&mut self, view: &dyn View) -> usize {
+        self.dice.index(view.processes().len())
+    }
+
+    /// Numbers near the cells' values and at the ends of the types.
+    fn number_near(&mut self, value: u64) -> u64 {
+        match self.dice.below(8) {
+            0 => value,
+            1 => value.wrapping_add(1),
+            2 => value.wrapping_sub(1),
+            3 => self.dice.below(4),
+            4 => u64::MAX - self.dice.below(2),
+            5 => (1 << 32) - 1 + self.dice.below(2),
+            6 => self.dice.roll() >> self.dice.below(64),
+            _ => self.dice.below(20),
+        }
+    }
+
+    fn word(&mut self) -> u32 {
+        let near = self.number_near(u32::MAX.into());
+        near as u32
+    }
+
+    /// Owners are few, so that processes offer the same.
+    fn owner(&mut self) -> u64 {
+        self.dice.of(&[1, 1, 2, 2, 3, (1 << 32) + 1, (7 << 32) + 2, u64::MAX, 0])
+    }
+}

@@ -1,0 +1,287 @@
+//! One script on the port, on the Rust, or on both with every cell compared after each call.
+
+use crate::memory::{
+    copy, differing_cells, Memory, Own, OwnCell, Record, Settings, SharedCell, View, BLOCK_ENTRIES, BLOCK_HASH_CELLS,
+};
+use crate::refusals::{refusal, rust_on_refusal, Asked, RustOnRefusal};
+use crate::script::{Answer, Call, Line, New};
+use crate::sides::{Given, Lent, MakeRust, Panicked, Port, Rust};
+use std::fmt;
+
+/// The sides that a script runs on: one of them, or both.
+#[derive(Clone, Copy)]
+pub struct Sides<'a> {
+    pub port: Option<&'a dyn Port>,
+    pub rust: Option<MakeRust>,
+}
+
+/// What a line comes to.
+#[derive(Clone, Debug, PartialEq, Eq)]
+pub enum Reply {
+    /// A comment.
+    Silent,
+    New,
+    /// A poke, a loan or settings.
+    Set,
+    Answer(Answer),
+    Dump(String),
+    /// A line of no known form, a cell or process that there isn't, or a call that the port does not have.
+    Unknown,
+}
+
+impl fmt::Display for Reply {
+    fn fmt(&self, f: &mut fmt::Formatter) -> fmt::Result {
+        match self {
+            Self::Silent => Ok(()),
+            Self::New => f.write_str("new"),
+            Self::Set => f.write_str("ok"),
+            Self::Answer(answer) => answer.fmt(f),
+            Self::Dump(line) => f.write_str(line),
+            Self::Unknown => f.write_str("?"),
+        }
+    }
+}
+
+/// Where the sides part.
+#[derive(Debug)]
+pub struct Difference {
+    pub line: Line,
+    pub port: String,
+    pub rust: String,
+    pub cells: Vec<String>,
+}
+
+/// How many of the differing cells are shown.
+const SHOWN_CELLS: usize = 40;
+
+impl fmt::Display for Difference {
+    fn fmt(&self, f: &mut fmt::Formatter) -> fmt::Result {
+        writeln!(f, "difference at: {}", self.line)?;
+        writeln!(f, "  port: {}", self.port)?;
+        writeln!(f, "  Rust: {}", self.rust)?;
+        for cell in self.cells.iter().take(SHOWN_CELLS) {
+            writeln!(f, "  {cell}")?;
+        }
+        if self.cells.len() > SHOWN_CELLS {
+            writeln!(f, "  and {} cells more", self.cells.len() - SHOWN_CELLS)?;
+        }
+        Ok(())
+    }
+}
+
+/// The memory of each side, and what calls are given.
+struct World {
+    port: Option<Memory>,
+    rust: Option<Box<dyn Rust>>,
+    settings: Settings,
+    lent: Lent,
+}
+
+pub struct Session<'a> {
+    sides: Sides<'a>,
+    world: Option<World>,
+    pub calls: u64,
+    pub refused: u64,
+}
+
+impl<'a> Session<'a> {
+    pub fn new(sides: Sides<'a>) -> Self {
+        Self { sides, world: None, calls: 0, refused: 0 }
+    }
+
+    /// The memory as it stands, of the port if it takes part; `None` before the first `new`.
+    pub fn view(&self) -> Option<&dyn View> {
+        self.world.as_ref().map(World::view)
+    }
+
+    pub fn settings(&self) -> Option<&Settings> {
+        self.world.as_ref().map(|w| &w.settings)
+    }
+
+    pub fn step(&mut self, line: &Line) -> Result<Reply, Box<Difference>> {
+        match line {
+            Line::Comment(_) => return Ok(Reply::Silent),
+            Line::Unknown(_) => return Ok(Reply::Unknown),
+            Line::New(new) => {
+                self.world = Some(World::new(&self.sides, new));
+                return Ok(Reply::New);
+            }
+            _ => {}
+        }
+        let Some(world) = &mut self.world else { return Ok(Reply::Unknown) };
+        let reply = match line {
+            Line::Call { process, call } if *process < world.processes() => {
+                let reply = world.call(self.sides.port, *process, call, line)?;
+                if let Reply::Answer(answer) = &reply {
+                    self.calls += 1;
+                    self.refused += u64::from(matches!(answer, Answer::Refused(_)));
+                }
+                return Ok(reply);
+            }
+            Line::Dump { process } if *process < world.processes() => return world.dump(*process, line),
+            Line::Settings(settings) => {
+                world.settings = *settings;
+                if let Some(rust) = &mut world.rust {
+                    rust.set_settings(settings);
+                }
+                true
+            }
+            Line::Lend { part, count } => {
+                world.lent.set(*part, *count);
+                true
+            }
+            Line::Poke { cell, index, value } => world.poke(*cell, *index, *value),
+            Line::Own { process, cell, index, value } => world.poke_own(*process, *cell, *index, *value),
+            Line::Registry { process, index, record } => world.poke_registry(*process, *index, *record),
+            _ => false,
+        };
+        Ok(if reply { Reply::Set } else { Reply::Unknown })
+    }
+}
+
+impl World {
+    fn new(sides: &Sides, new: &New) -> Self {
+        Self {
+            port: sides.port.map(|_| Memory::fresh(&new.settings, new.start_blocks, new.processes)),
+            rust: sides.rust.map(|make| make(new)),
+            settings: new.settings,
+            lent: Lent::default(),
+        }
+    }
+
+    fn view(&self) -> &dyn View {
+        match (&self.port, &self.rust) {
+            (Some(memory), _) => memory,
+            (None, Some(rust)) => &**rust,
+            (None, None) => unreachable!("a session has a side"),
+        }
+    }
+
+    fn processes(&self) -> usize {
+        self.view().processes().len()
+    }
+
+    fn call(
+        &mut self,
+        port: Option<&dyn Port>,
+        process: usize,
+        call: &Call,
+        line: &Line,
+    ) -> Result<Reply, Box<Difference>> {
+        let number = self.refusal(process, call);
+        let port_answer = match (port, &mut self.port) {
+            (Some(port), Some(memory)) => {
+                let given = Given { memory, process, settings: self.settings, lent: self.lent };
+                match port.call(given, call) {
+                    Some(answer) => Some(answer),
+                    None => return Ok(Reply::Unknown),
+                }
+            }
+            _ => None,
+        };
+        let Some(rust) = &mut self.rust else {
+            return Ok(Reply::Answer(port_answer.expect("a session has a side")));
+        };
+        let rust_answer = match number {
+            Some(number) => refused_by_rust(&mut **rust, process, call, number),
+            None => rust.call(process, call).map_err(|Panicked(why)| format!("panicked: {why}")),
+        };
+        let agree = match (&self.port, &port_answer) {
+            (Some(memory), Some(answer)) => rust_answer.as_ref() == Ok(answer) && rust.same(memory),
+            // The Rust alone: what it does must still agree with the table of refusals.
+            _ => rust_answer.is_ok(),
+        };
+        match rust_answer {
+            Ok(answer) if agree => Ok(Reply::Answer(answer)),
+            _ => Err(Box::new(Difference {
+                line: line.clone(),
+                port: port_answer.map_or("not asked".into(), |answer| answer.to_string()),
+                rust: rust_answer.map_or_else(|words| words, |answer| answer.to_string()),
+                cells: self.port.as_ref().map_or(Vec::new(), |memory| differing_cells(memory, &copy(&**rust))),
+            })),
+        }
+    }
+
+    /// The number by the table of refusals. A list's length is the Rust's.
+    fn refusal(&self, process: usize, call: &Call) -> Option<u32> {
+        let rust = self.rust.as_ref()?;
+        let asked = Asked { call, process, settings: &self.settings, lent: &self.lent, memory: self.view() };
+        refusal(&asked, |min, max| rust.pairs(process, min, max))
+    }
+
+    fn dump(&mut self, process: usize, line: &Line) -> Result<Reply, Box<Difference>> {
+        let port = self.port.as_ref().map(|memory| memory.dump(process));
+        let rust = self.rust.as_ref().map(|rust| copy(&**rust).dump(process));
+        match (port, rust) {
+            (Some(port), Some(rust)) if port != rust => {
+                Err(Box::new(Difference { line: line.clone(), port, rust, cells: vec![] }))
+            }
+            (Some(dump), _) | (None, Some(dump)) => Ok(Reply::Dump(dump)),
+            (None, None) => unreachable!("a session has a side"),
+        }
+    }
+
+    fn poke(&mut self, cell: SharedCell, index: u64, value: u64) -> bool {
+        let view = self.view();
+        let cells = match cell {
+            SharedCell::Page | SharedCell::Frame => view.room_blocks() * BLOCK_ENTRIES,
+            SharedCell::Hash => view.room_blocks() * BLOCK_HASH_CELLS,
+            SharedCell::Bitmap => view.slots().bitmap.len(),
+            SharedCell::SlotFrame | SharedCell::SlotOwner => view.slots().frames.len(),
+            SharedCell::Header(_) => 1,
+        };
+        if index >= cells as u64 {
+            return false;
+        }
+        if let Some(memory) = &mut self.port {
+            memory.poke(cell, index as usize, value);
+        }
+        if let Some(rust) = &mut self.rust {
+            rust.poke(cell, index as usize, value);
+        }
+        true
+    }
+
+    fn poke_own(&mut self, process: usize, cell: OwnCell, index: u64, value: u64) -> bool {
+        let exists = |own: &Own| cell != OwnCell::LocalOwner || index < own.local_owners.len() as u64;
+        if !self.view().processes().get(process).is_some_and(exists) {
+            return false;
+        }
+        if let Some(memory) = &mut self.port {
+            memory.processes[process].poke(cell, index as usize, value);
+        }
+        if let Some(rust) = &mut self.rust {
+            rust.poke_own(process, cell, index as usize, value);
+        }
+        true
+    }
+
+    fn poke_registry(&mut self, process: usize, index: u64, record: Record) -> bool {
+        let exists = |own: &Own| index < own.registry.len() as u64;
+        if !self.view().processes().get(process).is_some_and(exists) {
+            return false;
+        }
+        if let Some(memory) = &mut self.port {
+            memory.processes[process].registry[index as usize] = record;
+        }
+        if let Some(rust) = &mut self.rust {
+            rust.poke_registry(process, index as usize, record);
+        }
+        true
+    }
+}
+
+/// A refused call on the Rust: it must panic or accept as the table of refusals says, and is then undone.
+fn refused_by_rust(rust: &mut dyn Rust, process: usize, call: &Call, number: u32) -> Result<Answer, String> {
+    let expected = rust_on_refusal(call, number);
+    if expected != RustOnRefusal::NotAsked {
+        match (rust.attempt(process, call), expected) {
+            (Ok(answer), RustOnRefusal::Panics) => return Err(format!("{answer}, where {number} is due")),
+            (Err(Panicked(why)), RustOnRefusal::Accepts) => {
+                return Err(format!("panicked where {number} is due and acceptance expected: {why}"));
+            }
+            _ => {}
+        }
+    }
+    Ok(Answer::Refused(number))
+}

@@ -1,0 +1,272 @@
+//! The C functions of the port's static library, and the calls made of them.
+
+use calls::memory::Header;
+use calls::script::Answer;
+use calls::sides::{Given, Parts, Port};
+
+#[repr(C)]
+struct Bumped {
+    header: Header,
+    value: u32,
+}
+
+#[repr(C)]
+struct LockReply {
+    refusal: u32,
+    answer: u32,
+    header: Header,
+    local_owner: u64,
+}
+
+/// The answer of a record or a rollback.
+#[repr(C)]
+struct IndexReply {
+    refusal: u32,
+    answer: u32,
+    header: Header,
+}
+
+#[repr(C)]
+struct FindReply {
+    refusal: u32,
+    found: u32,
+    frame: u64,
+}
+
+// A slice of the port is a pointer and a length.
+extern "C" {
+    fn wal_owner_new(pid: u32, instance_id: u32) -> u64;
+    fn wal_owner_pid(owner: u64) -> u32;
+    fn wal_owner_instance_id(owner: u64) -> u32;
+    fn wal_publish_commit(
+        header: *mut Header,
+        max_frame: u64,
+        checksum_1: u32,
+        checksum_2: u32,
+        transaction_count: u64,
+    );
+    fn wal_publish_backfill(header: Header, nbackfills: u64) -> Header;
+    fn wal_bump_checkpoint_seq(header: Header) -> Bumped;
+    fn wal_bump_checkpoint_epoch(header: Header) -> Bumped;
+    fn wal_try_acquire_writer(header: Header, local_owner: u64, owner: u64, card: u8) -> LockReply;
+    fn wal_try_acquire_checkpoint(header: Header, local_owner: u64, owner: u64, card: u8) -> LockReply;
+    fn wal_release_writer(mode: u32, header: Header, local_owner: u64, owner: u64) -> LockReply;
+    fn wal_release_checkpoint(mode: u32, header: Header, local_owner: u64, owner: u64) -> LockReply;
+    fn wal_record_frame(
+        capacity: u32,
+        max_blocks: u32,
+        header: Header,
+        pages: *mut u64,
+        pages_len: usize,
+        frames: *mut u64,
+        frames_len: usize,
+        hash: *mut u16,
+        hash_len: usize,
+        page: u64,
+        frame: u64,
+        grow: u32,
+    ) -> IndexReply;
+    fn wal_rollback_frames(
+        capacity: u32,
+        max_blocks: u32,
+        header: Header,
+        pages: *const u64,
+        pages_len: usize,
+        frames: *const u64,
+        frames_len: usize,
+        hash: *mut u16,
+        hash_len: usize,
+        bound: u64,
+    ) -> IndexReply;
+    fn wal_find_frame(
+        capacity: u32,
+        max_blocks: u32,
+        header: Header,
+        pages: *const u64,
+        pages_len: usize,
+        frames: *const u64,
+        frames_len: usize,
+        hash: *const u16,
+        hash_len: usize,
+        page: u64,
+        min: u64,
+        max: u64,
+        has_watermark: u32,
+        watermark: u64,
+    ) -> FindReply;
+}
+
+/// The answer that a reply gives, if the interface allows it.
+fn answer(refusal: u32, answer: u32, accepted: impl FnOnce(u32) -> Option<Answer>) -> Answer {
+    let known = match (refusal, answer) {
+        (0, _) => accepted(answer),
+        (_, 0) => Some(Answer::Refused(refusal)),
+        _ => None,
+    };
+    known.unwrap_or_else(|| Answer::Odd(format!("refusal {refusal} and answer {answer}")))
+}
+
+fn acquired(reply: u32) -> Option<Answer> {
+    match reply {
+        0 => Some(Answer::Acquired(false)),
+        1 => Some(Answer::Acquired(true)),
+        _ => None,
+    }
+}
+
+fn released(reply: u32) -> Option<Answer> {
+    (reply == 1).then_some(Answer::Done)
+}
+
+fn recorded(reply: u32) -> Option<Answer> {
+    match reply {
+        0 => Some(Answer::Dropped),
+        1 => Some(Answer::Stored),
+        _ => None,
+    }
+}
+
+pub struct Library;
+
+impl Port for Library {
+    fn record_frame(&self, g: Given, page: u64, frame: u64, grow: bool) -> Option<Answer> {
+        let (capacity, max_blocks) = (g.settings.capacity, g.settings.max_blocks);
+        let Parts { header, pages, frames, hash, .. } = g.parts();
+        let reply = unsafe {
+            wal_record_frame(
+                capacity,
+                max_blocks,
+                *header,
+                pages.as_mut_ptr(),
+                pages.len(),
+                frames.as_mut_ptr(),
+                frames.len(),
+                hash.as_mut_ptr(),
+                hash.len(),
+                page,
+                frame,
+                grow.into(),
+            )
+        };
+        *header = reply.header;
+        Some(answer(reply.refusal, reply.answer, recorded))
+    }
+
+    fn rollback_frames(&self, g: Given, bound: u64) -> Option<Answer> {
+        let (capacity, max_blocks) = (g.settings.capacity, g.settings.max_blocks);
+        let Parts { header, pages, frames, hash, .. } = g.parts();
+        let reply = unsafe {
+            wal_rollback_frames(
+                capacity,
+                max_blocks,
+                *header,
+                pages.as_ptr(),
+                pages.len(),
+                frames.as_ptr(),
+                frames.len(),
+                hash.as_mut_ptr(),
+                hash.len(),
+                bound,
+            )
+        };
+        *header = reply.header;
+        Some(answer(reply.refusal, reply.answer, |kept| Some(Answer::Kept(kept))))
+    }
+
+    fn find_frame(&self, g: Given, page: u64, min: u64, max: u64, watermark: Option<u64>) -> Option<Answer> {
+        let (capacity, max_blocks) = (g.settings.capacity, g.settings.max_blocks);
+        let Parts { header, pages, frames, hash, .. } = g.parts();
+        let reply = unsafe {
+            wal_find_frame(
+                capacity,
+                max_blocks,
+                *header,
+                pages.as_ptr(),
+                pages.len(),
+                frames.as_ptr(),
+                frames.len(),
+                hash.as_ptr(),
+                hash.len(),
+                page,
+                min,
+                max,
+                watermark.is_some().into(),
+                watermark.unwrap_or(0),
+            )
+        };
+        let frame = match (reply.found, reply.frame) {
+            (0, 0) | (1, _) => reply.frame,
+            _ => return Some(Answer::Odd(format!("found {} and frame {}", reply.found, reply.frame))),
+        };
+        Some(answer(reply.refusal, reply.found, |found| match found {
+            1 => Some(Answer::Frame(frame)),
+            _ => Some(Answer::Nothing),
+        }))
+    }
+
+    fn owner_new(&self, pid: u32, instance_id: u32) -> Option<Answer> {
+        Some(Answer::Owner(unsafe { wal_owner_new(pid, instance_id) }))
+    }
+
+    fn owner_parts(&self, owner: u64) -> Option<Answer> {
+        let (pid, instance_id) = unsafe { (wal_owner_pid(owner), wal_owner_instance_id(owner)) };
+        Some(Answer::Parts { pid, instance_id })
+    }
+
+    fn publish_commit(
+        &self,
+        g: Given,
+        max_frame: u64,
+        checksum_1: u32,
+        checksum_2: u32,
+        transaction_count: u64,
+    ) -> Option<Answer> {
+        unsafe { wal_publish_commit(&mut g.memory.header, max_frame, checksum_1, checksum_2, transaction_count) };
+        Some(Answer::Done)
+    }
+
+    fn publish_backfill(&self, g: Given, nbackfills: u64) -> Option<Answer> {
+        g.memory.header = unsafe { wal_publish_backfill(g.memory.header, nbackfills) };
+        Some(Answer::Done)
+    }
+
+    fn bump_checkpoint_seq(&self, g: Given) -> Option<Answer> {
+        let bumped = unsafe { wal_bump_checkpoint_seq(g.memory.header) };
+        g.memory.header = bumped.header;
+        Some(Answer::Seq(bumped.value))
+    }
+
+    fn bump_checkpoint_epoch(&self, g: Given) -> Option<Answer> {
+        let bumped = unsafe { wal_bump_checkpoint_epoch(g.memory.header) };
+        g.memory.header = bumped.header;
+        Some(Answer::Epoch(bumped.value))
+    }
+
+    fn try_acquire_writer(&self, g: Given, owner: u64, byte: u8) -> Option<Answer> {
+        let cell = &mut g.memory.processes[g.process].local_writer;
+        let reply = unsafe { wal_try_acquire_writer(g.memory.header, *cell, owner, byte) };
+        (g.memory.header, *cell) = (reply.header, reply.local_owner);
+        Some(answer(reply.refusal, reply.answer, acquired))
+    }
+
+    fn try_acquire_checkpoint(&self, g: Given, owner: u64, byte: u8) -> Option<Answer> {
+        let cell = &mut g.memory.processes[g.process].local_checkpoint;
+        let reply = unsafe { wal_try_acquire_checkpoint(g.memory.header, *cell, owner, byte) };
+        (g.memory.header, *cell) = (reply.header, reply.local_owner);
+        Some(answer(reply.refusal, reply.answer, acquired))
+    }
+
+    fn release_writer(&self, g: Given, owner: u64) -> Option<Answer> {
+        let cell = &mut g.memory.processes[g.process].local_writer;
+        let reply = unsafe { wal_release_writer(g.settings.mode, g.memory.header, *cell, owner) };
+        (g.memory.header, *cell) = (reply.header, reply.local_owner);
+        Some(answer(reply.refusal, reply.answer, released))
+    }
+
+    fn release_checkpoint(&self, g: Given, owner: u64) -> Option<Answer> {
+        let cell = &mut g.memory.processes[g.process].local_checkpoint;
+        let reply = unsafe { wal_release_checkpoint(g.settings.mode, g.memory.header, *cell, owner) };
+        (g.memory.header, *cell) = (reply.header, reply.local_owner);
+        Some(answer(reply.refusal, reply.answer, released))
+    }
+}
