@@ -16,7 +16,7 @@ fn main() {
     let out = env::var("OUT_DIR").unwrap();
     let own = env::var("CARGO_MANIFEST_DIR").unwrap();
     let copy = Path::new(&out).join("shared_wal_coordination.rs");
-    let line = format!("#[path = {:?}] pub(crate) mod peek;\n", Path::new(&own).join("src/peek.rs"));
+    let line = format!("#[path = {:?}] pub(crate) mod peek;\n", Path::new(&own).join("../oracle/src/peek.rs"));
     fs::write(&copy, [&bytes[..], line.as_bytes()].concat()).unwrap();
     let written = fs::read(&copy).unwrap();
     assert_eq!(sha256(&written[..bytes.len()]), SHA256, "the file is compiled unchanged");

@@ -18,7 +18,8 @@ use Rattle.frame_index.specs.declared.record.Place.the-variants.{AtEnd, 
 use Rattle.frame_index.specs.declared.record.Plan.{Plan}
 use Rattle.frame_index.specs.declared.record.Plan.the-variants.{First, Next, Dropped, Refused}
 use Rattle.frame_index.specs.Index.{index-refusal, block-of, place-of, block-cells-of, index-in, HasRoom}
-use Rattle.frame_index.specs.Record.{started, placed, out-of-order, record-frame, carried-out, plan-fits, PlannedRecord}
+use Rattle.frame_index.specs.Record.{started, placed, out-of-order, record-frame}
+use Rattle.frame_index.specs.Plan.{carried-out, plan-fits, PlannedRecord}
 use Rattle.frame_index.proofs.Settings.{passed-settings, passed-long}
 use Rattle.frame_index.proofs.Placed.{started-blocks, place-room}
 use Rattle.frame_index.proofs.Recorded.{record-refused, record-dropped, record-out-of-order, record-full, record-first, record-next}

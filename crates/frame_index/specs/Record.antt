@@ -1,26 +1,23 @@
 -- record_frame (document 01, "record_frame"). Assumes nothing.
-use mathlib.Core.Path.{_≡_}
 use mathlib.Core.Bool.{Bool, true, false, not, _&&_, _||_, cond}
 use mathlib.Core.List.{List, [], _∷_, _++_}
-use Prim.Native.Nat.{ℕ, _+_, _-_, _<_}
+use Prim.Native.Nat.{ℕ, _+_, _-_}
 use lib.Dec.{eqb, leb, ltb}
-use lib.ListN.{length, getD, set}
+use lib.ListN.{getD}
 use Rattle.wal_types.specs.declared.Header.{Header}
 use Rattle.wal_types.specs.Settings.{entries-for}
 use Rattle.wal_types.specs.Memory.{Memory, Process}
 use Rattle.wal_types.specs.Store.{to-header, frame-index-len, frame-index-overflowed, frame-index-blocks, header-with, to-page, to-frame, Piece, one, when, _then_}
 use Rattle.wal_types.specs.Refusal.{Test, _if_, frame-order, hash-full}
-use Rattle.wal_types.specs.Call.{Call, Answer, refused, stored, dropped, does, unless, Done, done, after}
+use Rattle.wal_types.specs.Call.{Call, Answer, refused, stored, dropped, does, unless}
 use Rattle.hash_block.specs.declared.Cell.{Cell}
 use Rattle.hash_block.specs.declared.Cell.the-variants.{Empty, Full}
-use Rattle.hash_block.specs.Block.{cleared, empty-cell, inserted}
+use Rattle.hash_block.specs.Block.{empty-cell}
 use Rattle.frame_index.specs.declared.record.Record.{Record}
 use Rattle.frame_index.specs.declared.record.Record.the-variants.{Stored, Dropped, Refused}
 use Rattle.frame_index.specs.declared.record.Place.{Place}
 use Rattle.frame_index.specs.declared.record.Place.the-variants.{AtEnd, NoPlace}
-use Rattle.frame_index.specs.declared.record.Plan.{Plan}
-use Rattle.frame_index.specs.declared.record.Plan.the-variants.{First, Next, Dropped as DropPlan, Refused as RefusePlan}
-use Rattle.frame_index.specs.Index.{index-tests, block-of, place-of, block-cells-of, with-block, clear-block, insert-entry, HasRoom, index-in}
+use Rattle.frame_index.specs.Index.{index-tests, block-of, place-of, block-cells-of, clear-block, insert-entry}
 
 -- Frame 1 while the published frame is 0 resets the index.
 abbrev pub resets : ℕ → Header → Bool
@@ -114,30 +111,3 @@ abbrev pub record-header : Header → Record → Header
 record-header before (Stored h) = h
 record-header before (Dropped h) = h
 record-header before (Refused n) = before
-
--- What a plan comes to: the answer, and the memory in closed form.
-abbrev pub carried-out : Plan → ℕ → ℕ → Memory → Header → List ℕ → List ℕ → List ℕ → Process → Done
-carried-out (First g) page frame z h ps fs hs p =
-    done stored
-    (index-in z (header-with frame-index-len (g .«frame_index_len» + 1) g) (set ps (g .«frame_index_len») page) (set fs (g .«frame_index_len») frame)
-    (with-block (block-of (g .«frame_index_len»)) (inserted cleared 0 page) hs))
-    p
-carried-out (Next g c) page frame z h ps fs hs p =
-    done stored
-    (index-in z (header-with frame-index-len (g .«frame_index_len» + 1) g) (set ps (g .«frame_index_len») page) (set fs (g .«frame_index_len») frame)
-    (with-block (block-of (g .«frame_index_len»)) (set (block-cells-of (block-of (g .«frame_index_len»)) hs) c (place-of (g .«frame_index_len») + 1)) hs))
-    p
-carried-out (DropPlan g) page frame z h ps fs hs p = done dropped (index-in z g ps fs hs) p
-carried-out (RefusePlan n) page frame z h ps fs hs p = done (refused n) (index-in z h ps fs hs) p
-
--- the lent parts have room for what the plan stores
-abbrev pub plan-fits : Plan → ℕ → ℕ → ℕ → Type 0
-plan-fits (First g) pages frames hash = HasRoom (g .«frame_index_len») pages frames hash
-plan-fits (Next g c) pages frames hash = HasRoom (g .«frame_index_len») pages frames hash × (c < 8192)
-plan-fits (DropPlan g) pages frames hash = Unit {0}
-plan-fits (RefusePlan n) pages frames hash = Unit {0}
-
--- The plan of a record is what the call does, whatever the pages.
-pub record PlannedRecord (capacity b page frame : ℕ) (grow : Bool) (h : Header) (pages : ℕ) (fs hs : List ℕ) (plan : Plan) : Type 0 where
-  pub does-it : (z : Memory) (p : Process) (ps : List ℕ) → length ps ≡ pages → after (record-frame capacity b page frame grow) (index-in z h ps fs hs) p ≡ carried-out plan page frame z h ps fs hs p
-  pub has-room : plan-fits plan pages (length fs) (length hs)

@@ -9,7 +9,8 @@ ghost use lib.ListN.{length, set};
 ghost use Rattle.hash_block.specs.Block.{cleared, inserted};
 ghost use Rattle.wal_types.specs.Store.{header-with, frame-index-len, frame-index-overflowed};
 ghost use Rattle.frame_index.specs.Index.{block-cells-of, with-block, HasRoom, IndexCall};
-ghost use Rattle.frame_index.specs.Record.{started, placed, out-of-order, record-frame, record-answer, record-header, PlannedRecord};
+ghost use Rattle.frame_index.specs.Record.{started, placed, out-of-order, record-frame, record-answer, record-header};
+ghost use Rattle.frame_index.specs.Plan.{PlannedRecord};
 
 // Stored and Dropped have the header as the call leaves it. Refused changes nothing.
 pub enum Record {

@@ -1,5 +1,5 @@
 -- Where a page's search starts in a block's hash table, and how it goes on (document 01, "Home of a page"; SQLite's
--- "WAL-mode File Format", section 2.3.2). Assumes nothing.
+-- "WAL-mode File Format", the hash tables of the WAL-index). Assumes nothing.
 use Prim.Native.Nat.{ℕ, _+_, _*_, _%_}
 
 -- home of a page: (page × 383) mod 8,192

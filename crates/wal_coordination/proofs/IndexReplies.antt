@@ -11,13 +11,17 @@ use Rattle.frame_index.specs.declared.rollback.Rollback.{Rollback}
 use Rattle.frame_index.specs.declared.rollback.Rollback.the-variants.{Kept, Refused as RollbackRefused}
 use Rattle.frame_index.specs.declared.find.Found.{Found}
 use Rattle.frame_index.specs.declared.find.Found.the-variants.{Frame, NoFrame, Refused as FindRefused}
-use Rattle.frame_index.specs.Index.{IndexCall}
+use Rattle.frame_list.specs.declared.List.{List as ListAnswer}
+use Rattle.frame_list.specs.declared.List.the-variants.{Pairs, Refused as ListRefused}
+use Rattle.frame_list.specs.Result.{Lists}
+use Rattle.frame_index.specs.Index.{IndexCall, index-in}
 use Rattle.frame_index.specs.Record.{record-answer, record-header}
 use Rattle.frame_index.specs.Rollback.{rollback-answer, rollback-header}
 use Rattle.frame_index.specs.Find.{found-answer}
 use Rattle.wal_coordination.specs.declared.index_calls.IndexReply.{IndexReply}
 use Rattle.wal_coordination.specs.declared.index_calls.FindReply.{FindReply}
-use Rattle.wal_coordination.specs.IndexReply.{record-reply, rollback-reply, find-reply, Told, IndexReplied, FindTold, FindReplied}
+use Rattle.wal_coordination.specs.declared.index_calls.ListReply.{ListReply}
+use Rattle.wal_coordination.specs.IndexReply.{list-reply, ListTold, ListReplied, record-reply, rollback-reply, find-reply, Told, IndexReplied, FindTold, FindReplied}
 
 -- what a reply tells of one outcome it tells of its equal
 told-by : (r : IndexReply) (z : Memory) (ps fs hs : List ℕ) (p : Process) {d e : Done} → d ≡ e → Told r z ps fs hs p e → Told r z ps fs hs p d
@@ -41,3 +45,14 @@ module _ (call : Call) (h : Header) (ps fs hs : List ℕ) where
   find-told (Frame f) e z p = find-told-by _ z h _ _ _ p (e z p) (record { refusal-told = refl; found-told = refl; frame-told = refl; memory-left = refl; process-left = refl })
   find-told NoFrame e z p = find-told-by _ z h _ _ _ p (e z p) (record { refusal-told = refl; found-told = refl; frame-told = refl; memory-left = refl; process-left = refl })
   find-told (FindRefused n) e z p = find-told-by _ z h _ _ _ p (e z p) (record { refusal-told = refl; found-told = refl; frame-told = refl; memory-left = refl; process-left = refl })
+
+list-told-by : (r : ListReply) (z : Memory) (h : Header) (ps fs hs : List ℕ) (p : Process) (op of np nf : List ℕ) {d e : Done} → d ≡ e → ListTold r z h ps fs hs p op of np nf e → ListTold r z h ps fs hs p op of np nf d
+list-told-by r z h ps fs hs p op of np nf q t = rw q t
+
+pub list-told : (call : Call) (h : Header) (ps fs hs op of np nf : List ℕ) (a : ListAnswer) → ((z : Memory) (p : Process) → Lists call (index-in z h ps fs hs) p a op of np nf) → ListReplied call h ps fs hs (list-reply a) op of np nf
+list-told call h ps fs hs op of np nf (Pairs n) e z p =
+    let l = e z p in
+    list-told-by _ z h ps fs hs p op of np nf (l .answered) (record { refusal-told = refl; count-told = l .count; pages-written = l .pages-written; frames-written = l .frames-written; memory-left = refl; process-left = refl })
+list-told call h ps fs hs op of np nf (ListRefused n) e z p =
+    let l = e z p in
+    list-told-by _ z h ps fs hs p op of np nf (l .answered) (record { refusal-told = refl; count-told = refl; pages-written = l .pages-kept; frames-written = l .frames-kept; memory-left = refl; process-left = refl })

@@ -6,14 +6,17 @@ use frame_index::record;
 use frame_index::record::Record;
 use frame_index::rollback;
 use frame_index::rollback::Rollback;
+use frame_list::List;
 use wal_types::Header;
 ghost use mathlib.Core.Path.{_≡_};
 ghost use mathlib.Core.Bool.{not};
 ghost use lib.Dec.{eqb};
+ghost use lib.ListN.{length};
 ghost use Rattle.frame_index.specs.Record.{record-frame};
 ghost use Rattle.frame_index.specs.Rollback.{rollback-frames};
 ghost use Rattle.frame_index.specs.Find.{find-frame};
-ghost use Rattle.wal_coordination.specs.IndexReply.{record-reply, rollback-reply, find-reply, IndexReplied, watermark-given, FindReplied};
+ghost use Rattle.frame_list.specs.Latest.{iter-latest-frames};
+ghost use Rattle.wal_coordination.specs.IndexReply.{record-reply, rollback-reply, find-reply, IndexReplied, watermark-given, FindReplied, list-reply, ListReplied};
 
 // The answer of a record or a rollback in numbers. refusal: 0, or the number of the refusal. answer: 1 stored, 0 dropped;
 // for a rollback the kept length. header is as the call leaves it: after a refusal, as it was given.
@@ -30,6 +33,13 @@ pub struct FindReply {
     pub refusal: u32,
     pub found: u32,
     pub frame: u64,
+}
+
+// The answer of a list in numbers: how many pairs are in the first output cells.
+#[repr(C)]
+pub struct ListReply {
+    pub refusal: u32,
+    pub count: u64,
 }
 
 fn recorded(answer: Record, header: Header) -> IndexReply
@@ -89,6 +99,21 @@ fn looked_up(answer: Found) -> FindReply
             refusal: number,
             found: 0,
             frame: 0,
+        },
+    }
+}
+
+fn listed(answer: List) -> ListReply
+    ensures { λ r. ⌜ r ≡ list-reply answer ⌝ }
+{
+    match answer {
+        List::Pairs(count) => ListReply {
+            refusal: 0,
+            count: count as u64,
+        },
+        List::Refused(number) => ListReply {
+            refusal: number,
+            count: 0,
         },
     }
 }
@@ -187,4 +212,35 @@ pub extern "C" fn wal_find_frame(
         frame_watermark,
     );
     looked_up(answer)
+}
+
+// Lists each page's latest frame within the bounds, by rising page: pages to out_pages, frames to out_frames.
+#[no_mangle]
+pub extern "C" fn wal_iter_latest_frames(
+    capacity: u32,
+    max_blocks: u32,
+    header: Header,
+    pages: &[u64],
+    frames: &[u64],
+    hash: &[u16],
+    min_frame: u64,
+    max_frame: u64,
+    out_pages: &mut [u64],
+    out_frames: &mut [u64],
+) -> ListReply
+    ensures { λ r. ⌜ ListReplied (iter-latest-frames capacity «max_blocks» «min_frame» «max_frame» (length (now («out_pages» .entry))) (length (now («out_frames» .entry)))) header (now (pages .entry)) (now (frames .entry)) (now (hash .entry)) r (now («out_pages» .entry)) (now («out_frames» .entry)) (now («out_pages» .exit)) (now («out_frames» .exit)) ⌝ }
+{
+    let answer = frame_list::iter_latest_frames(
+        capacity,
+        max_blocks,
+        header,
+        pages,
+        frames,
+        hash,
+        min_frame,
+        max_frame,
+        out_pages,
+        out_frames,
+    );
+    listed(answer)
 }

@@ -6,7 +6,9 @@
 //! - `refusals`: document 01's table of refusals.
 //! - `session`: one script on one side or on both, with every cell compared after each call.
 //! - `random`: scripts of its own making, and the shortest one that shows a difference.
+//! - `exhaustive`: all short sequences of calls on the index.
 
+pub mod exhaustive;
 pub mod memory;
 pub mod random;
 pub mod refusals;

@@ -144,7 +144,7 @@ impl Header {
 }
 
 /// The shared cells of the reader slots.
-#[derive(Clone, Debug, PartialEq, Eq)]
+#[derive(Clone, Debug, Default, PartialEq, Eq)]
 pub struct Slots {
     pub bitmap: Vec<u64>,
     pub frames: Vec<u64>,
@@ -252,7 +252,7 @@ pub enum OwnCell {
 }
 
 /// The memory of the port, and a copy of the Rust's for dumps.
-#[derive(Clone, Debug)]
+#[derive(Clone, Debug, Default)]
 pub struct Memory {
     pub header: Header,
     pub pages: Vec<u64>,
@@ -275,6 +275,16 @@ impl Memory {
             slots: Slots::fresh(slots),
             processes: vec![Own::fresh(slots); processes],
         }
+    }
+
+    /// Becomes a copy, in the room that there is.
+    pub fn copy_of(&mut self, other: &Self) {
+        self.header = other.header;
+        self.pages.clone_from(&other.pages);
+        self.frames.clone_from(&other.frames);
+        self.hash.clone_from(&other.hash);
+        self.slots.clone_from(&other.slots);
+        self.processes.clone_from(&other.processes);
     }
 
     /// Pokes a cell that there is.

@@ -5,8 +5,8 @@ mod header;
 mod index;
 mod readers;
 
-use crate::memory::{Memory, Settings, View, LINUX_OFD, PROCESS_SCOPED_FCNTL};
-use crate::script::{Call, Line, New, PARTS};
+use crate::memory::{Memory, Settings, View, BLOCK_ENTRIES, BLOCK_HASH_CELLS, LINUX_OFD, PROCESS_SCOPED_FCNTL};
+use crate::script::{Call, Line, New, Part, PARTS};
 use crate::session::{Difference, Session, Sides};
 use crate::sides::{Given, Lent};
 use dice::Dice;
@@ -15,6 +15,7 @@ use std::time::{Duration, Instant};
 /// What a run of random scripts came to.
 pub struct Tally {
     pub calls: u64,
+    pub on_index: u64,
     pub refused: u64,
 }
 
@@ -24,10 +25,30 @@ pub struct Found {
     pub difference: Box<Difference>,
 }
 
+/// Which scripts are made.
+pub struct Wanted {
+    pub seed: u64,
+    pub sequences: u64,
+    /// The families that scripts are made of, as far as the port has their calls; none: all.
+    pub families: Vec<Family>,
+}
+
+impl Wanted {
+    /// Scripts of all families.
+    pub fn all(seed: u64, sequences: u64) -> Self {
+        Self { seed, sequences, families: Vec::new() }
+    }
+}
+
 /// Runs scripts made from the seed until they are through or one shows a difference. `each` gets every script.
-pub fn run(sides: Sides, seed: u64, sequences: u64, mut each: impl FnMut(&[Line])) -> Result<Tally, Found> {
-    let families = Family::offered(&sides);
-    let mut tally = Tally { calls: 0, refused: 0 };
+pub fn run(sides: Sides, wanted: &Wanted, mut each: impl FnMut(&[Line])) -> Result<Tally, Found> {
+    let Wanted { seed, sequences, .. } = *wanted;
+    let mut families = Family::offered(&sides);
+    families.retain(|family| wanted.families.is_empty() || wanted.families.contains(family));
+    let mut tally = Tally { calls: 0, on_index: 0, refused: 0 };
+    if families.is_empty() {
+        return Ok(tally);
+    }
     for sequence in 0..sequences {
         let mut maker = Maker { dice: Dice::new(seed, sequence), families: &families, family: Family::Header };
         let mut session = Session::new(sides);
@@ -41,6 +62,7 @@ pub fn run(sides: Sides, seed: u64, sequences: u64, mut each: impl FnMut(&[Line]
         }
         each(&script);
         tally.calls += session.calls;
+        tally.on_index += session.on_index;
         tally.refused += session.refused;
     }
     Ok(tally)
@@ -54,11 +76,14 @@ fn step(line: Line, session: &mut Session, script: &mut Vec<Line>, sides: Sides)
 }
 
 /// How long a failing script is shortened.
-const SHORTENING: Duration = Duration::from_secs(20);
+fn shortening() -> Duration {
+    let seconds = std::env::var("WAL_COMPARE_SHORTENING").ok().and_then(|word| word.parse().ok());
+    Duration::from_secs(seconds.unwrap_or(20))
+}
 
 /// Drops lines, many at once and then fewer, as long as a difference is left.
-fn shortest(sides: Sides, mut script: Vec<Line>) -> Found {
-    let end = Instant::now() + SHORTENING;
+pub(crate) fn shortest(sides: Sides, mut script: Vec<Line>) -> Found {
+    let end = Instant::now() + shortening();
     let mut difference = fails(sides, &script).expect("the script shows a difference");
     let mut drop = script.len() / 2;
     while drop > 0 {
@@ -89,7 +114,7 @@ fn fails(sides: Sides, script: &[Line]) -> Option<Box<Difference>> {
 }
 
 #[derive(Clone, Copy, Debug, PartialEq, Eq)]
-enum Family {
+pub enum Family {
     /// Publishes, bumps and the two locks.
     Header,
     /// Record, rollback, lookup and list.
@@ -101,6 +126,16 @@ enum Family {
 }
 
 impl Family {
+    pub fn named(word: &str) -> Option<Self> {
+        Some(match word {
+            "header" => Self::Header,
+            "index" => Self::Index,
+            "readers" => Self::Readers,
+            "shared" => Self::Shared,
+            _ => return None,
+        })
+    }
+
     /// The families that a script can be made of: those whose calls the port has.
     fn offered(sides: &Sides) -> Vec<Self> {
         let examples = [
@@ -137,10 +172,13 @@ impl Maker<'_> {
         match self.family {
             Family::Header => slots = self.dice.between(1, 4) as u32,
             Family::Index => {
-                max_blocks = self.dice.of(&[1, 1, 1, 1, 2, 2, 2, 3, 3, 4, 4, 16]);
+                max_blocks = self.dice.of(&[1, 1, 1, 1, 2, 2, 2, 3, 3, 4, 4]);
+                if self.dice.one_in(8) {
+                    max_blocks = self.dice.between(1, 16) as u32;
+                }
                 capacity = match max_blocks {
                     2.. if !self.dice.one_in(3) => self.dice.of(&[65_536, 65_535, max_blocks * 4096]),
-                    _ => self.dice.of(&[1, 2, 3, 17, 4095, 4096, 4097, 8192, 8193, 12_289, 65_535, 65_536]),
+                    _ => self.dice.of(&[1, 2, 3, 17, 4095, 4096, 4097, 8191, 8192, 8193, 12_289, 65_535, 65_536]),
                 };
             }
             Family::Readers | Family::Shared => {
@@ -194,10 +232,17 @@ impl Maker<'_> {
             1 => Line::Settings(Settings { max_blocks: self.dice.of(&[0, 1, 2, 16, 17, u32::MAX]), ..fitting }),
             2 => Line::Settings(Settings { slots: self.dice.of(&[0, 1, 2, 64, 65, 256, 257, u32::MAX]), ..fitting }),
             3 => Line::Settings(Settings { mode: self.dice.of(&[0, 1, 2, 3, u32::MAX]), ..fitting }),
-            4 | 5 => {
+            4 => {
                 let part = self.dice.of(&PARTS).1;
                 let most = if self.dice.one_in(2) { 9 } else { 9000 };
                 Line::Lend { part, count: Some(self.dice.below(most)) }
+            }
+            5 => {
+                // As many cells as the index needs, or one fewer.
+                let blocks = self.dice.between(1, fitting.max_blocks.into());
+                let part = self.dice.of(&[Part::Pages, Part::Frames, Part::Hash]);
+                let cells = if part == Part::Hash { BLOCK_HASH_CELLS } else { BLOCK_ENTRIES } as u64;
+                Line::Lend { part, count: Some(cells * blocks - self.dice.below(2)) }
             }
             _ => Line::Lend { part: self.dice.of(&PARTS).1, count: None },
         }

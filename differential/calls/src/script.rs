@@ -299,6 +299,17 @@ fn own_cell(word: &str) -> Option<OwnCell> {
 }
 
 impl Call {
+    /// Record, rollback, lookup and list.
+    pub fn is_on_index(&self) -> bool {
+        matches!(
+            self,
+            Self::RecordFrame { .. }
+                | Self::RollbackFrames { .. }
+                | Self::FindFrame { .. }
+                | Self::IterLatestFrames { .. }
+        )
+    }
+
     fn known(word: &str, w: &mut Words) -> Option<Self> {
         Some(match word {
             "record" => Self::RecordFrame { page: w.number()?, frame: w.number()?, grow: w.zero_or_one()? },

@@ -80,13 +80,17 @@ struct World {
 pub struct Session<'a> {
     sides: Sides<'a>,
     world: Option<World>,
+    /// Whether every cell is compared after each call, and not the answers alone.
+    pub compares_cells: bool,
     pub calls: u64,
+    /// Of these, the ones on the index.
+    pub on_index: u64,
     pub refused: u64,
 }
 
 impl<'a> Session<'a> {
     pub fn new(sides: Sides<'a>) -> Self {
-        Self { sides, world: None, calls: 0, refused: 0 }
+        Self { sides, world: None, compares_cells: true, calls: 0, on_index: 0, refused: 0 }
     }
 
     /// The memory as it stands, of the port if it takes part; `None` before the first `new`.
@@ -96,6 +100,21 @@ impl<'a> Session<'a> {
 
     pub fn settings(&self) -> Option<&Settings> {
         self.world.as_ref().map(|w| &w.settings)
+    }
+
+    /// Copies the port's memory, which the Rust's is like after each call.
+    pub fn keep(&self, kept: &mut Memory) {
+        let port = self.world.as_ref().and_then(|world| world.port.as_ref());
+        kept.copy_of(port.expect("memory of the port is kept"));
+    }
+
+    /// Gives both sides the memory that was kept.
+    pub fn put_back(&mut self, kept: &Memory) {
+        let World { port, rust, .. } = self.world.as_mut().expect("memory was kept");
+        port.as_mut().expect("memory of the port was kept").copy_of(kept);
+        if let Some(rust) = rust {
+            rust.set_memory(kept);
+        }
     }
 
     pub fn step(&mut self, line: &Line) -> Result<Reply, Box<Difference>> {
@@ -111,9 +130,10 @@ impl<'a> Session<'a> {
         let Some(world) = &mut self.world else { return Ok(Reply::Unknown) };
         let reply = match line {
             Line::Call { process, call } if *process < world.processes() => {
-                let reply = world.call(self.sides.port, *process, call, line)?;
+                let reply = world.call(self.sides.port, *process, call, line, self.compares_cells)?;
                 if let Reply::Answer(answer) = &reply {
                     self.calls += 1;
+                    self.on_index += u64::from(call.is_on_index());
                     self.refused += u64::from(matches!(answer, Answer::Refused(_)));
                 }
                 return Ok(reply);
@@ -167,6 +187,7 @@ impl World {
         process: usize,
         call: &Call,
         line: &Line,
+        compares_cells: bool,
     ) -> Result<Reply, Box<Difference>> {
         let number = self.refusal(process, call);
         let port_answer = match (port, &mut self.port) {
@@ -187,7 +208,9 @@ impl World {
             None => rust.call(process, call).map_err(|Panicked(why)| format!("panicked: {why}")),
         };
         let agree = match (&self.port, &port_answer) {
-            (Some(memory), Some(answer)) => rust_answer.as_ref() == Ok(answer) && rust.same(memory),
+            (Some(memory), Some(answer)) => {
+                rust_answer.as_ref() == Ok(answer) && (!compares_cells || rust.same(memory))
+            }
             // The Rust alone: what it does must still agree with the table of refusals.
             _ => rust_answer.is_ok(),
         };

@@ -190,6 +190,9 @@ pub trait Rust: View {
     fn poke_own(&mut self, process: usize, cell: OwnCell, index: usize, value: u64);
     fn poke_registry(&mut self, process: usize, index: usize, record: Record);
 
+    /// Takes every cell from a memory of the same settings.
+    fn set_memory(&mut self, memory: &Memory);
+
     /// Whether every cell is the same.
     fn same(&self, memory: &Memory) -> bool;
 }

@@ -1,9 +1,7 @@
 //! `./compare`: call scripts on the port and on the Rust.
 
-#[cfg(feature = "port")]
-mod port;
-
-use calls::random::{self, Found, Tally};
+use calls::exhaustive;
+use calls::random::{self, Family, Found, Tally, Wanted};
 use calls::script::Line;
 use calls::session::{Reply, Session, Sides};
 use calls::sides::{MakeRust, Port};
@@ -13,8 +11,10 @@ use std::process::ExitCode;
 const USAGE: &str = "usage: compare FILE                      each call on both sides, every cell compared
        compare --port FILE               the port's answers
        compare --rust FILE               the Rust's answers
-       compare --random SEED SEQUENCES   scripts of the tool's own making, on both sides
+       compare --random SEED SEQUENCES [FAMILY..]   scripts of the tool's own making, on both sides
+                                         FAMILY: header, index, readers or shared; none: all that the port has
        compare --random-rust SEED SEQUENCES   the same on the Rust alone, against the table of refusals
+       compare --exhaustive LENGTH       all sequences of up to LENGTH calls on the index, on both sides
        compare --scripts SEED SEQUENCES  prints the scripts of --random";
 
 #[cfg(feature = "port")]
@@ -36,9 +36,10 @@ fn main() -> ExitCode {
     let (run, sides): (Run, Sides) = match words[..] {
         ["--port", _] => (script, Sides { rust: None, ..both }),
         ["--rust", _] => (script, Sides { port: None, ..both }),
-        ["--random", _, _] => (random_scripts, both),
-        ["--scripts", _, _] => (print_scripts, both),
-        ["--random-rust", _, _] => (random_scripts, Sides { port: None, ..both }),
+        ["--random", _, _, ..] => (random_scripts, both),
+        ["--exhaustive", _] => (all_sequences, both),
+        ["--scripts", _, _, ..] => (print_scripts, both),
+        ["--random-rust", _, _, ..] => (random_scripts, Sides { port: None, ..both }),
         [file] if !file.starts_with("--") => (script, both),
         _ => return fault(USAGE),
     };
@@ -81,11 +82,35 @@ fn script(sides: Sides, words: &[&str]) -> ExitCode {
     }
 }
 
+/// SEED SEQUENCES [FAMILY..].
+fn wanted(words: &[&str]) -> Option<Wanted> {
+    let families = words[2..].iter().map(|word| Family::named(word)).collect::<Option<_>>()?;
+    Some(Wanted { seed: words[0].parse().ok()?, sequences: words[1].parse().ok()?, families })
+}
+
 fn random_scripts(sides: Sides, words: &[&str]) -> ExitCode {
-    let (Ok(seed), Ok(sequences)) = (words[1].parse(), words[2].parse()) else { return fault(USAGE) };
-    match random::run(sides, seed, sequences, |_| ()) {
-        Ok(Tally { calls, refused }) => {
-            println!("random: {seed}, {sequences} sequences, {calls} calls, {refused} refused, no difference");
+    let Some(wanted) = wanted(&words[1..]) else { return fault(USAGE) };
+    match random::run(sides, &wanted, |_| ()) {
+        Ok(Tally { calls, on_index, refused }) => {
+            let Wanted { seed, sequences, .. } = wanted;
+            let calls = format!("{calls} calls ({on_index} on the index)");
+            println!("random: {seed}, {sequences} sequences, {calls}, {refused} refused, no difference");
+            ExitCode::SUCCESS
+        }
+        Err(found) => told(&found),
+    }
+}
+
+fn all_sequences(sides: Sides, words: &[&str]) -> ExitCode {
+    let Ok(length) = words[1].parse() else { return fault(USAGE) };
+    let mut total = 0;
+    let run = exhaustive::run(sides, length, |tally| {
+        println!("exhaustive: {}, {} sequences", tally.opening, tally.sequences);
+        total += tally.sequences;
+    });
+    match run {
+        Ok(()) => {
+            println!("exhaustive: {total} sequences of up to {length} calls, no difference");
             ExitCode::SUCCESS
         }
         Err(found) => told(&found),
@@ -93,8 +118,8 @@ fn random_scripts(sides: Sides, words: &[&str]) -> ExitCode {
 }
 
 fn print_scripts(sides: Sides, words: &[&str]) -> ExitCode {
-    let (Ok(seed), Ok(sequences)) = (words[1].parse(), words[2].parse()) else { return fault(USAGE) };
-    match random::run(sides, seed, sequences, |script| script.iter().for_each(|line| println!("{line}"))) {
+    let Some(wanted) = wanted(&words[1..]) else { return fault(USAGE) };
+    match random::run(sides, &wanted, |script| script.iter().for_each(|line| println!("{line}"))) {
         Ok(_) => ExitCode::SUCCESS,
         Err(found) => told(&found),
     }

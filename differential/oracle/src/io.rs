@@ -126,6 +126,16 @@ impl MappedFile {
         unsafe { self.hash_start(cell / BLOCK_HASH_CELLS).add(cell % BLOCK_HASH_CELLS).write(value) }
     }
 
+    /// Sets all cells of a block; the slices are as long as a block's.
+    pub(crate) fn set_block(&self, block: usize, pages: &[u64], frames: &[u64], hash: &[u16]) {
+        let entries: *mut [u64; 2] = self.blocks[block].0.as_ptr().cast();
+        for (entry, (page, frame)) in pages.iter().zip(frames).take(BLOCK_ENTRIES).enumerate() {
+            unsafe { entries.add(entry).write([*page, *frame]) }
+        }
+        assert_eq!(hash.len(), BLOCK_HASH_CELLS);
+        unsafe { std::ptr::copy_nonoverlapping(hash.as_ptr(), self.hash_start(block), hash.len()) }
+    }
+
     fn hash_start(&self, block: usize) -> *mut u16 {
         unsafe { self.blocks[block].0.as_ptr().add(BLOCK_ENTRIES * 16).cast() }
     }

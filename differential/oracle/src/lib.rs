@@ -4,6 +4,8 @@
 //!   gives the lock and growth answers that a call is to get.
 //! - `peek`: a child module of the Rust file, which reaches what is private there.
 //! - `world`: several processes over one memory, each with its own mapping.
+//! - `direct`: one process's calls with nothing around them, to measure.
+//! - `hasher`: a fast hasher for the Rust's maps, in place of the standard one.
 
 #[macro_export]
 macro_rules! turso_assert {
@@ -12,13 +14,21 @@ macro_rules! turso_assert {
     };
 }
 
+mod direct;
+#[cfg(feature = "fast-hash")]
+mod hasher;
 mod io;
 mod sync;
 mod world;
 
+pub use direct::Direct;
 pub use world::fresh;
 
+#[cfg(not(feature = "fast-hash"))]
 use std::collections::HashMap;
+
+#[cfg(feature = "fast-hash")]
+type HashMap<K, V> = std::collections::HashMap<K, V, std::hash::BuildHasherDefault<hasher::Multiplicative>>;
 
 type Result<T, E = LimboError> = std::result::Result<T, E>;
 

@@ -296,6 +296,23 @@ impl Rust for World {
         self.processes[process].set_own(&self.own[process]);
     }
 
+    fn set_memory(&mut self, memory: &Memory) {
+        self.processes.iter().for_each(Process::unmap_blocks);
+        self.processes[0].set_header(&memory.header);
+        for block in 0..self.file.room_blocks() {
+            let entries = block * BLOCK_ENTRIES..(block + 1) * BLOCK_ENTRIES;
+            self.file.set_block(
+                block,
+                &memory.pages[entries.clone()],
+                &memory.frames[entries],
+                memory.block_hash(block),
+            );
+        }
+        self.slots.clone_from(&memory.slots);
+        self.own.clone_from(&memory.processes);
+        self.place_slots();
+    }
+
     fn same(&self, memory: &Memory) -> bool {
         let blocks = memory.pages.chunks(BLOCK_ENTRIES).zip(memory.frames.chunks(BLOCK_ENTRIES));
         self.header() == memory.header

@@ -1,6 +1,6 @@
 //! The Rust's answers on scripts worked out by hand from document 01.
 
-use calls::random;
+use calls::random::{self, Wanted};
 use calls::script::Line;
 use calls::session::{Session, Sides};
 
@@ -235,6 +235,6 @@ fn unknown_lines_and_cells() {
 
 #[test]
 fn the_table_of_refusals_agrees_with_random_calls() {
-    let tally = random::run(RUST, 3, 300, |_| ()).unwrap_or_else(|found| panic!("{}", found.difference));
+    let tally = random::run(RUST, &Wanted::all(3, 300), |_| ()).unwrap_or_else(|found| panic!("{}", found.difference));
     assert!(tally.refused > 1000 && tally.calls > 2 * tally.refused);
 }

@@ -1,6 +1,7 @@
 //! The comparison finds what is wrong with a port, and shows it shortly.
 
-use calls::random;
+use calls::exhaustive;
+use calls::random::{self, Wanted};
 use calls::script::{Answer, Line};
 use calls::session::{Session, Sides};
 use calls::sides::{Given, Port};
@@ -25,22 +26,39 @@ impl Port for Bump {
     }
 }
 
-fn with(port: &Bump) -> Sides<'_> {
+/// A port of records that never begins the index anew.
+struct NeverResets;
+
+impl Port for NeverResets {
+    fn record_frame(&self, g: Given, page: u64, frame: u64, _: bool) -> Option<Answer> {
+        let header = &mut g.memory.header;
+        if header.frame_index_len >= g.settings.capacity {
+            header.frame_index_overflowed = 1;
+            return Some(Answer::Dropped);
+        }
+        let entry = header.frame_index_len as usize;
+        (g.memory.pages[entry], g.memory.frames[entry]) = (page, frame);
+        g.memory.hash[(page * 383 % 8192) as usize] = entry as u16 + 1;
+        header.frame_index_len += 1;
+        Some(Answer::Stored)
+    }
+}
+
+fn with(port: &dyn Port) -> Sides<'_> {
     Sides { port: Some(port), rust: Some(oracle::fresh) }
 }
 
 #[test]
 fn a_right_port_shows_no_difference() {
-    let tally =
-        random::run(with(&Bump::default()), 1, 500, |_| ()).unwrap_or_else(|found| panic!("{}", found.difference));
+    let tally = random::run(with(&Bump::default()), &Wanted::all(1, 500), |_| ())
+        .unwrap_or_else(|found| panic!("{}", found.difference));
     assert!(tally.calls > 500);
 }
 
 #[test]
 fn a_wrong_wrap_is_found_and_the_script_is_short() {
-    let Err(found) = random::run(with(&Bump { stays_at_end: true, ..Bump::default() }), 1, 500, |_| ()) else {
-        panic!("no difference")
-    };
+    let port = Bump { stays_at_end: true, ..Bump::default() };
+    let Err(found) = random::run(with(&port), &Wanted::all(1, 500), |_| ()) else { panic!("no difference") };
     let script: Vec<String> = found.script.iter().map(Line::to_string).collect();
     assert_eq!(script[1..], ["poke seq 0 4294967295".to_string(), format!("seq {}", last_process(&script))]);
     assert_eq!(found.difference.cells, ["seq: port 4294967295, Rust 0"]);
@@ -48,6 +66,13 @@ fn a_wrong_wrap_is_found_and_the_script_is_short() {
 
 fn last_process(script: &[String]) -> char {
     script.last().and_then(|line| line.chars().last()).expect("a process")
+}
+
+#[test]
+fn a_wrong_sequence_is_found_among_all() {
+    let Err(found) = exhaustive::run(with(&NeverResets), 2, |_| ()) else { panic!("no difference") };
+    let script: Vec<String> = found.script.iter().map(Line::to_string).collect();
+    assert_eq!(script, ["new 1 1 1 1 O 1", "record 0 7 1 1", "record 0 7 1 1"]);
 }
 
 #[test]

@@ -175,7 +175,14 @@ impl Maker<'_> {
             13 | 14 => {
                 let min = if self.dice.one_in(2) { self.dice.below(3) } else { self.likely_frame(view) };
                 let max = if self.dice.one_in(4) { u64::MAX } else { self.likely_frame(view) };
-                Call::IterLatestFrames { min, max, room: self.dice.of(&[0, 1, 2, 5, 70_000, u64::MAX]) }
+                // As many pairs as there can be for the bounds 0 and 2^64-1, or one fewer; or any.
+                let len = self.visible_len(view);
+                let mut pages: Vec<u64> = (0..len.min(80)).map(|entry| view.page(entry)).collect();
+                pages.sort_unstable();
+                pages.dedup();
+                let exact = (pages.len() as u64).saturating_sub(self.dice.below(2));
+                let (min, max) = if self.dice.one_in(3) { (0, u64::MAX) } else { (min, max) };
+                Call::IterLatestFrames { min, max, room: self.dice.of(&[exact, exact, 0, 1, 2, 5, 70_000, u64::MAX]) }
             }
             15 => Call::PublishCommit {
                 max_frame: self.dice.of(&[0, 0, 1, 9]),
@@ -205,7 +212,7 @@ impl Maker<'_> {
         let len = self.visible_len(view);
         let entry = if len == 0 { self.dice.index(entries) } else { self.entry(len) };
         let poke = |cell, index: usize, value| Line::Poke { cell, index: index as u64, value };
-        match self.dice.below(10) {
+        match self.dice.below(11) {
             0 | 1 => poke(SharedCell::Frame, entry, self.likely_frame(view)),
             2 | 3 => poke(SharedCell::Page, entry, self.likely_page(view)),
             4..=6 => {
@@ -230,6 +237,7 @@ impl Maker<'_> {
                 let near = self.dice.of(&[0, 1, 4095, 4096, 4097, 8192, 65_536, u32::MAX]);
                 poke(SharedCell::Header(HeaderCell::Len), 0, near.into())
             }
+            9 => poke(SharedCell::Header(HeaderCell::Flag), 0, self.dice.of(&[0, 1, 1, 2, u32::MAX]).into()),
             _ => poke(SharedCell::Header(HeaderCell::MaxFrame), 0, self.dice.of(&[0, 0, 1, u64::MAX])),
         }
     }

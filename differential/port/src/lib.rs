@@ -1,100 +1,11 @@
-//! The C functions of the port's static library, and the calls made of them.
+//! The port as a side of the comparison, over the C functions of its static library.
 
-use calls::memory::Header;
+pub mod functions;
+pub mod list;
+
 use calls::script::Answer;
 use calls::sides::{Given, Parts, Port};
-
-#[repr(C)]
-struct Bumped {
-    header: Header,
-    value: u32,
-}
-
-#[repr(C)]
-struct LockReply {
-    refusal: u32,
-    answer: u32,
-    header: Header,
-    local_owner: u64,
-}
-
-/// The answer of a record or a rollback.
-#[repr(C)]
-struct IndexReply {
-    refusal: u32,
-    answer: u32,
-    header: Header,
-}
-
-#[repr(C)]
-struct FindReply {
-    refusal: u32,
-    found: u32,
-    frame: u64,
-}
-
-// A slice of the port is a pointer and a length.
-extern "C" {
-    fn wal_owner_new(pid: u32, instance_id: u32) -> u64;
-    fn wal_owner_pid(owner: u64) -> u32;
-    fn wal_owner_instance_id(owner: u64) -> u32;
-    fn wal_publish_commit(
-        header: *mut Header,
-        max_frame: u64,
-        checksum_1: u32,
-        checksum_2: u32,
-        transaction_count: u64,
-    );
-    fn wal_publish_backfill(header: Header, nbackfills: u64) -> Header;
-    fn wal_bump_checkpoint_seq(header: Header) -> Bumped;
-    fn wal_bump_checkpoint_epoch(header: Header) -> Bumped;
-    fn wal_try_acquire_writer(header: Header, local_owner: u64, owner: u64, card: u8) -> LockReply;
-    fn wal_try_acquire_checkpoint(header: Header, local_owner: u64, owner: u64, card: u8) -> LockReply;
-    fn wal_release_writer(mode: u32, header: Header, local_owner: u64, owner: u64) -> LockReply;
-    fn wal_release_checkpoint(mode: u32, header: Header, local_owner: u64, owner: u64) -> LockReply;
-    fn wal_record_frame(
-        capacity: u32,
-        max_blocks: u32,
-        header: Header,
-        pages: *mut u64,
-        pages_len: usize,
-        frames: *mut u64,
-        frames_len: usize,
-        hash: *mut u16,
-        hash_len: usize,
-        page: u64,
-        frame: u64,
-        grow: u32,
-    ) -> IndexReply;
-    fn wal_rollback_frames(
-        capacity: u32,
-        max_blocks: u32,
-        header: Header,
-        pages: *const u64,
-        pages_len: usize,
-        frames: *const u64,
-        frames_len: usize,
-        hash: *mut u16,
-        hash_len: usize,
-        bound: u64,
-    ) -> IndexReply;
-    fn wal_find_frame(
-        capacity: u32,
-        max_blocks: u32,
-        header: Header,
-        pages: *const u64,
-        pages_len: usize,
-        frames: *const u64,
-        frames_len: usize,
-        hash: *const u16,
-        hash_len: usize,
-        page: u64,
-        min: u64,
-        max: u64,
-        has_watermark: u32,
-        watermark: u64,
-    ) -> FindReply;
-}
+use functions::*;
 
 /// The answer that a reply gives, if the interface allows it.
 fn answer(refusal: u32, answer: u32, accepted: impl FnOnce(u32) -> Option<Answer>) -> Answer {
@@ -211,6 +122,10 @@ impl Port for Library {
     fn owner_parts(&self, owner: u64) -> Option<Answer> {
         let (pid, instance_id) = unsafe { (wal_owner_pid(owner), wal_owner_instance_id(owner)) };
         Some(Answer::Parts { pid, instance_id })
+    }
+
+    fn iter_latest_frames(&self, g: Given, min: u64, max: u64, room: u64) -> Option<Answer> {
+        Some(list::iter_latest_frames(g, min, max, room))
     }
 
     fn publish_commit(

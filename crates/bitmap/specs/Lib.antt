@@ -1,0 +1,2 @@
+-- Bits of a word of the reader bitmap.
+pub mod Bit

@@ -1,0 +1,46 @@
+-- `columns::request::has_form`: the length, the letter and the newline, one after the other. Assumes nothing.
+use borrow.Author.Tests.{eq-eqb, ne-eqb}
+use borrow.Author.Needs.{needs}
+use Rattle.columns.proofs.request.has_form.Statement.{statement}
+use Rattle.columns.proofs.request.has_form.Tie as tie
+
+mul-if1 : tie.Need-mul-if1
+mul-if1 c = search needs
+
+add-if1 : tie.Need-add-if1
+add-if1 c = search needs
+
+returns : tie.Need-returns
+returns c = rw (ne-eqb _ _ (c .if1 .taken))
+
+shared-slice-read-if2 : tie.Need-shared-slice-read-if2
+shared-slice-read-if2 c = search needs
+
+returns-2 : tie.Need-returns-2
+returns-2 c = rw (eq-eqb _ _ (c .before .before .if1 .left), ne-eqb _ _ (c .if2 .taken))
+
+mul-result : tie.Need-mul-result
+mul-result c = search needs
+
+add-result : tie.Need-add-result
+add-result c = search needs
+
+shared-slice-read-result : tie.Need-shared-slice-read-result
+shared-slice-read-result c = search needs
+
+returns-3 : tie.Need-returns-3
+returns-3 c = rw (eq-eqb _ _ (c .before .before .before .if1 .left), eq-eqb _ _ (c .before .if2 .left))
+
+pub has-form-spec : {M : Type 1} → statement M
+has-form-spec =
+    tie.close
+    (tie.spec
+    mul-if1
+    add-if1
+    returns
+    shared-slice-read-if2
+    returns-2
+    mul-result
+    add-result
+    shared-slice-read-result
+    returns-3)

@@ -1,0 +1,5 @@
+// Reader slots: a reader's mark in a numbered slot of the shared memory, held by a byte lock.
+pub mod floor;
+pub mod register;
+pub mod slots;
+pub mod update;

@@ -1,0 +1,162 @@
+-- While a hold at a mark lasts, the index up to that mark stays as it was. Assumes nothing.
+use mathlib.Core.Path.{_≡_, refl, sym, _∙_, ap, subst}
+use mathlib.Core.Bool.{Bool, true, false, _&&_}
+use mathlib.Core.List.{List, [], _∷_, List·Memᴰ, List·Memᴰ·head, List·Memᴰ·tail}
+use mathlib.Core.Logic.{_⊎_, inl, inr}
+use Prim.Native.Nat.{ℕ, _≤_}
+use native.Mathlib.Omega.{arith}
+use lib.Dec.{eqb}
+use borrow.Author.Tests.{ne-eqb}
+use Rattle.wal_types.specs.Memory.{Memory, Process}
+use Rattle.wal_types.specs.Call.{Pair, Answer, refused, ok, flag, value, stored, dropped, kept, frame-found, none, listed, slot-taken, Done, after}
+use Rattle.frame_index.specs.Record.{resets, record-frame}
+use Rattle.frame_index.specs.Rollback.{rollback-frames}
+use Rattle.frame_index.proofs.Recorded.{record-refused}
+use Rattle.frame_index.proofs.RolledBack.{rollback-refused}
+use Rattle.grown_index.specs.Entries.{entries, up-to}
+use Rattle.grown_index.specs.Grown.{Grown, SameIndex}
+use Rattle.grown_index.specs.Calls.{RollbackLeaves}
+use Rattle.grown_index.proofs.Starts.{same-entries}
+use Rattle.grown_index.proofs.Lists.{up-to-keeps, up-to-only}
+use Rattle.grown_index.proofs.Records.{record-elsewhere}
+use Rattle.grown_index.proofs.Rollbacks.{rollback-leaves, rollback-elsewhere}
+use Rattle.grown_index.proofs.Views.{SameView, record-view, rollback-view}
+use Rattle.sequence.specs.Sequence.{Settings, Op, record-op, rollback-op, find-op, list-op, register-op, share-op, move-op, release-op, unshare-op, floor-op, limit-op, db-reader-op, acquire-op, unlock-op, commit-op, backfill-op, seq-op, epoch-op, World, Event, answer-of, next, run, Throughout}
+use Rattle.sequence.specs.Book.{Book, entered, InPairs, here, there}
+use Rattle.sequence.specs.Hold.{accepted, KeepsAbove}
+use Rattle.sequence.proofs.IndexAside.{Untouched, find-beside, list-beside, register-beside, share-beside, move-beside, release-beside, unshare-beside, floor-beside, limit-beside, db-reader-beside, acquire-beside, unlock-beside, backfill-beside, seq-beside, epoch-beside}
+use Rattle.sequence.proofs.IndexStands.{refusal-of, Stands, commit-raises, next-stands}
+
+-- A memory's entries have these pairs up to the mark, and the mark is published.
+pub record Seen (mark : ℕ) (es : List Pair) (m : Memory) : Type 0 where
+  pub same-view : SameView mark es (entries m)
+  pub mark-published : mark ≤ m .header .«max_frame»
+
+-- What keeps it: the same entries up to the mark, and a published frame that is not lowered.
+pub record Keeps (mark : ℕ) (m m′ : Memory) : Type 0 where
+  pub view-kept : SameView mark (entries m) (entries m′)
+  pub published-kept : m .header .«max_frame» ≤ m′ .header .«max_frame»
+
+keeps-itself : (mark : ℕ) (m : Memory) → Keeps mark m m
+keeps-itself mark m = record { view-kept = refl; published-kept = omega arith }
+
+index-keeps : (mark : ℕ) (m m′ : Memory) → SameIndex m m′ → m .header .«max_frame» ≤ m′ .header .«max_frame» → Keeps mark m m′
+index-keeps mark m m′ same l = record { view-kept = ap (up-to mark) (same-entries m m′ same); published-kept = l }
+
+untouched-keeps : (mark : ℕ) (m m′ : Memory) → Untouched m m′ → Keeps mark m m′
+untouched-keeps mark m m′ u = let e = u .published-same in index-keeps mark m m′ (u .index-same) (omega arith)
+
+-- a pair with the mark as its frame
+pub record AtMark (mark : ℕ) (es : List Pair) : Type 0 where
+  pub marked : Pair
+  pub is-there : List·Memᴰ marked es
+  pub has-mark : marked .frame ≡ mark
+
+pub at-mark : {mark : ℕ} {es : List Pair} → InPairs mark es → AtMark mark es
+at-mark here = record { marked = _; is-there = List·Memᴰ·head refl; has-mark = refl }
+at-mark (there i) = let x = at-mark i in record { marked = x .marked; is-there = List·Memᴰ·tail (x .is-there); has-mark = x .has-mark }
+
+-- a published frame above 0: no record resets
+no-reset : (frame : ℕ) (m : Memory) → 1 ≤ m .header .«max_frame» → resets frame (m .header) ≡ false
+no-reset frame m l = rw (ne-eqb (m .header .«max_frame») 0 (λ e. omega arith)) (go (eqb frame 1))
+  where
+    go : (t : Bool) → (t && false) ≡ false
+    go true = refl
+    go false = refl
+
+module _ (s : Settings) (mark : ℕ) (least : 1 ≤ mark) (es : List Pair) (at : AtMark mark es) where
+  -- the pair at the mark is still there
+  still-there : (m : Memory) → Seen mark es m → AtMark mark (entries m)
+  still-there m seen =
+      let e = at .has-mark in
+      let kept-in : List·Memᴰ (at .marked) (up-to mark (entries m)) = subst (List·Memᴰ (at .marked)) (sym (seen .same-view)) (up-to-keeps mark es (at .marked) (omega arith) (at .is-there)) in
+      record { marked = at .marked; is-there = up-to-only mark (entries m) (at .marked) kept-in .0; has-mark = e }
+
+  -- RECORDS come above it, and do not reset
+  record-keeps : (page frame : ℕ) (grow : Bool) (m : Memory) (p : Process) (b : Book) → Stands s m b → Seen mark es m → Keeps mark m (after (record-frame (s .capacity) (s .max-blocks) page frame grow) m p .memory)
+  record-keeps page frame grow m p b stands seen = go (stands .grown-or-shut)
+    where
+      go : Grown (s .capacity) (s .max-blocks) m ⊎ (refusal-of s m ≡ 0 → ⊥) → Keeps mark m (after (record-frame (s .capacity) (s .max-blocks) page frame grow) m p .memory)
+      go (inl g) =
+          let x = still-there m seen in
+          let l = seen .mark-published in
+          let e = record-elsewhere (s .capacity) (s .max-blocks) page frame grow m p g .same-published in
+          record {
+            view-kept = record-view (s .capacity) (s .max-blocks) mark m p g page frame grow (x .marked) (x .is-there) (omega (arith, x .has-mark)) (no-reset frame m (omega arith));
+            published-kept = omega arith;
+          }
+      go (inr shut) =
+          subst (λ (d : Done). Keeps mark m (d .memory))
+          (sym (record-refused (s .capacity) (s .max-blocks) page frame grow m (m .header) (m .pages) (m .frames) (m .hash) p (refusal-of s m) refl shut)) (keeps-itself mark m)
+
+  -- ROLLBACKS not below the mark leave what is up to it
+  rollback-keeps : (bound : ℕ) (m : Memory) (p : Process) (b : Book) → Stands s m b → (accepted (after (rollback-frames (s .capacity) (s .max-blocks) bound) m p .answer) → mark ≤ bound)
+      → Keeps mark m (after (rollback-frames (s .capacity) (s .max-blocks) bound) m p .memory)
+  rollback-keeps bound m p b stands above = go (stands .grown-or-shut)
+    where
+      call-done : Done
+      call-done = after (rollback-frames (s .capacity) (s .max-blocks) bound) m p
+
+      by-answer : Grown (s .capacity) (s .max-blocks) m → (a : Answer) → RollbackLeaves bound m a (call-done .memory) → (accepted a → mark ≤ bound) → SameView mark (entries m) (entries (call-done .memory))
+      by-answer g (kept n) leaves l = rollback-view (s .capacity) (s .max-blocks) mark m p g bound (l tt)
+      by-answer g (refused n) leaves l = ap (λ (x : Memory). up-to mark (entries x)) leaves
+      by-answer g stored leaves l = absurd leaves
+      by-answer g dropped leaves l = absurd leaves
+      by-answer g ok leaves l = absurd leaves
+      by-answer g (flag t) leaves l = absurd leaves
+      by-answer g (value n) leaves l = absurd leaves
+      by-answer g (frame-found f) leaves l = absurd leaves
+      by-answer g none leaves l = absurd leaves
+      by-answer g (listed k) leaves l = absurd leaves
+      by-answer g (slot-taken i o k) leaves l = absurd leaves
+
+      go : Grown (s .capacity) (s .max-blocks) m ⊎ (refusal-of s m ≡ 0 → ⊥) → Keeps mark m (call-done .memory)
+      go (inl g) =
+          let e = rollback-elsewhere (s .capacity) (s .max-blocks) bound m p g .same-published in
+          record { view-kept = by-answer g (call-done .answer) (rollback-leaves (s .capacity) (s .max-blocks) bound m p g) above; published-kept = omega arith }
+      go (inr shut) =
+          subst (λ (d : Done). Keeps mark m (d .memory))
+          (sym (rollback-refused (s .capacity) (s .max-blocks) bound m (m .header) (m .pages) (m .frames) (m .hash) p (refusal-of s m) refl shut)) (keeps-itself mark m)
+
+  -- EACH CALL of a hold
+  module _ (w : World) (b : Book) (stands : Stands s (w .memory) b) (seen : Seen mark es (w .memory)) (who : ℕ) where
+    abbrev m : Memory
+    m = w .memory
+
+    abbrev p : Process
+    p = w .processes who
+
+    op-keeps : (op : Op) → KeepsAbove s mark (record { who = who; op = op }) w → Keeps mark m (next s (record { who = who; op = op }) w .memory)
+    op-keeps (record-op page frame grow) above = record-keeps page frame grow m p b stands seen
+    op-keeps (rollback-op bound) above = rollback-keeps bound m p b stands above
+    op-keeps (commit-op frame c1 c2 count) above =
+        let r = commit-raises frame c1 c2 count m p in
+        let e = r .published-raised in
+        index-keeps mark m _ (r .index-same) (omega arith)
+    op-keeps (find-op page low high x) above = untouched-keeps mark m _ (find-beside (s .capacity) (s .max-blocks) page low high x m p)
+    op-keeps (list-op low high room-pages room-frames) above = untouched-keeps mark m _ (list-beside (s .capacity) (s .max-blocks) low high room-pages room-frames m p)
+    op-keeps (register-op owner k bytes) above = untouched-keeps mark m _ (register-beside (s .slots) (s .mode) owner k bytes m p)
+    op-keeps (share-op owner k bytes) above = untouched-keeps mark m _ (share-beside (s .slots) (s .mode) owner k bytes m p)
+    op-keeps (move-op slot owner k) above = untouched-keeps mark m _ (move-beside (s .slots) slot owner k m p)
+    op-keeps (release-op slot owner) above = untouched-keeps mark m _ (release-beside (s .slots) (s .mode) slot owner m p)
+    op-keeps (unshare-op k slot owner) above = untouched-keeps mark m _ (unshare-beside (s .slots) (s .mode) k slot owner m p)
+    op-keeps (floor-op bytes) above = untouched-keeps mark m _ (floor-beside (s .slots) (s .mode) bytes m p)
+    op-keeps (limit-op bytes) above = untouched-keeps mark m _ (limit-beside (s .slots) (s .mode) bytes m p)
+    op-keeps (db-reader-op bytes) above = untouched-keeps mark m _ (db-reader-beside (s .slots) (s .mode) bytes m p)
+    op-keeps (acquire-op lock owner byte) above = untouched-keeps mark m _ (acquire-beside lock owner byte m p)
+    op-keeps (unlock-op lock owner) above = untouched-keeps mark m _ (unlock-beside lock (s .mode) owner m p)
+    op-keeps (backfill-op n) above = untouched-keeps mark m _ (backfill-beside n m p)
+    op-keeps seq-op above = untouched-keeps mark m _ (seq-beside m p)
+    op-keeps epoch-op above = untouched-keeps mark m _ (epoch-beside m p)
+
+  pub next-seen : (e : Event) (w : World) (b : Book) → Stands s (w .memory) b → Seen mark es (w .memory) → KeepsAbove s mark e w → Seen mark es (next s e w .memory)
+  next-seen e w b stands seen above =
+      let k = op-keeps w b stands seen (e .who) (e .op) above in
+      record { same-view = k .view-kept ∙ seen .same-view; mark-published = omega (arith, seen .mark-published, k .published-kept) }
+
+  -- EVERY SEQUENCE during a hold
+  pub run-seen : (events : List Event) (w : World) (b : Book) → Stands s (w .memory) b → Seen mark es (w .memory) → Throughout (KeepsAbove s mark) s events w → Seen mark es (run s events w .memory)
+  unfolding run Throughout
+  run-seen [] w b stands seen above = seen
+  run-seen (e ∷ rest) w b stands seen above =
+      run-seen rest (next s e w) (entered (e .op) (answer-of s e w) b) (next-stands s e w b stands) (next-seen e w b stands seen (above .0)) (above .1)

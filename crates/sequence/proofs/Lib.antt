@@ -1,0 +1,13 @@
+-- Demand 3: its proof.
+pub mod SlotsAside
+pub mod SlotsCells
+pub mod SlotsStep
+pub mod IndexAside
+pub mod SlotsShared
+pub mod IndexStands
+pub mod ReadersInv
+pub mod IndexSeen
+pub mod IndexAnswers
+pub mod ReadersFloor
+pub mod ReadersHold
+pub mod Demand3

@@ -1,0 +1,151 @@
+-- The floor and the copy-back limit over a slot with a mark: a slot that they leave is counted. Assumes nothing.
+use mathlib.Core.Path.{_≡_, refl, sym, _∙_, subst}
+use mathlib.Core.Bool.{Bool, true, false, not, _&&_, _||_}
+use mathlib.Core.List.{List}
+use mathlib.Core.Logic.{_⊎_, inl, inr}
+use Prim.Native.Nat.{ℕ, zero, suc, _+_, _<_, _≤_, min}
+use native.Mathlib.Decide.{ℕ-discrete, decLe}
+use native.Mathlib.Omega.{arith}
+use lib.ListN.{length, getD, set, List·getD-eq-default}
+use lib.Seq.{getD-set-same, getD-set-other, set-out}
+use borrow.Author.Tests.{ne-eqb}
+use Rattle.wal_types.specs.declared.SharedWalOwnershipMode.{SharedWalOwnershipMode}
+use Rattle.wal_types.specs.declared.SharedWalOwnershipMode.the-variants.{LinuxOfd, ProcessScopedFcntl}
+use Rattle.wal_types.specs.Settings.{unused}
+use Rattle.wal_types.specs.Memory.{Memory, Process}
+use Rattle.wal_types.specs.Store.{apply, when}
+use Rattle.wal_types.specs.Refusal.{lowest}
+use Rattle.wal_types.specs.Call.{value, frame-found, Done, after, does}
+use Rattle.wal_types.proofs.Stores.{apply-append}
+use Rattle.readers.specs.declared.slots.Floor.{Floor}
+use Rattle.readers.specs.declared.slots.Floor.the-variants.{Mark, NoMark}
+use Rattle.readers.specs.Slots.{is-fcntl, held, granted, empty-slot, empty-slots}
+use Rattle.readers.specs.Floor.{skipped, dead, floor-of, floor-answer, probe-tests, reclaim-dead, min-active-reader-frame}
+use Rattle.readers.specs.Limit.{limit-of, copy-back-limit}
+use Rattle.readers.proofs.Cells.{getD-any, and-false}
+use Rattle.readers.proofs.Kept.{SlotSame, slot-same, emptied-other}
+use Rattle.readers.proofs.Least.{AtMost, floor-at-most}
+use Rattle.sequence.specs.Hold.{accepted}
+use Rattle.sequence.proofs.SlotsAside.{by-tests}
+use Rattle.sequence.proofs.SlotsCells.{not-both, none-applies, room}
+
+-- a frame cell made UNUSED, and one that was so already
+unused-cell : (f : List ℕ) (i : ℕ) → getD (set f i unused) i unused ≡ unused
+unused-cell f i = go (decLe (suc i) (length f))
+  where
+    go : Dec (i < length f) → getD (set f i unused) i unused ≡ unused
+    go (yes l) = getD-set-same f i unused unused l
+    go (no g) = rw (set-out f i unused (omega arith)) (List·getD-eq-default f unused (omega arith))
+
+still-unused : (f : List ℕ) (k i : ℕ) → getD f i unused ≡ unused → getD (set f k unused) i unused ≡ unused
+still-unused f k i e = go (ℕ-discrete i k)
+  where
+    go : Dec (i ≡ k) → getD (set f k unused) i unused ≡ unused
+    go (yes q) = rw q (unused-cell f k)
+    go (no g) = getD-set-other f k i unused unused g ∙ e
+
+emptied-frames : (mode : SharedWalOwnershipMode) (k : ℕ) (m : Memory) → apply (empty-slot mode k m) m .reader-frames ≡ set (m .reader-frames) k unused
+emptied-frames LinuxOfd k m = refl
+emptied-frames ProcessScopedFcntl k m = refl
+
+module _ (mode : SharedWalOwnershipMode) (bytes : List ℕ) (p : Process) (i : ℕ) where
+  abbrev test : Memory → ℕ → Bool
+  test = dead mode bytes p
+
+  abbrev cell : Memory → ℕ
+  cell m = getD (m .reader-frames) i unused
+
+  -- the memory with slot k emptied if the test says so
+  abbrev turn : Bool → ℕ → Memory → Memory
+  turn t k m = apply (when t (empty-slot mode k) m) m
+
+  abbrev reclaimed : ℕ → ℕ → Memory → Memory
+  reclaimed left k m = apply (empty-slots mode test left k m) m
+
+  reclaimed-next : (left k : ℕ) (m : Memory) → reclaimed (suc left) k m ≡ reclaimed left (k + 1) (turn (test m k) k m)
+  unfolding empty-slots
+  reclaimed-next left k m = apply-append (when (test m k) (empty-slot mode k) m) (empty-slots mode test left (k + 1) (turn (test m k) k m)) m
+
+  turn-unused : (t : Bool) (k : ℕ) (m : Memory) → cell m ≡ unused → cell (turn t k m) ≡ unused
+  turn-unused true k m e = rw (emptied-frames mode k m) (still-unused (m .reader-frames) k i e)
+  turn-unused false k m e = e
+
+  stays-unused : (left k : ℕ) (m : Memory) → cell m ≡ unused → cell (reclaimed left k m) ≡ unused
+  unfolding empty-slots
+  stays-unused zero k m e = e
+  stays-unused (suc left) k m e = rw (reclaimed-next left k m) (stays-unused left (k + 1) (turn (test m k) k m) (turn-unused (test m k) k m e))
+
+  turn-same : (t : Bool) (k : ℕ) (m : Memory) → (i ≡ k → ⊥) → SlotSame i m (turn t k m)
+  turn-same true k m f = emptied-other mode k i m f
+  turn-same false k m f = slot-same i m
+
+  same-test : (m m′ : Memory) → SlotSame i m m′ → test m′ i ≡ test m i
+  same-test m m′ s = rw (s .frame-same unused, s .owner-same 0)
+
+  -- a dead slot is emptied: one that is not was not dead
+  here-spared : (t : Bool) (left : ℕ) (m : Memory) → test m i ≡ t → (cell (reclaimed left (i + 1) (turn t i m)) ≡ unused → ⊥) → test m i ≡ false
+  here-spared true left m e f = absurd (f (stays-unused left (i + 1) (turn true i m) (rw (emptied-frames mode i m) (unused-cell (m .reader-frames) i))))
+  here-spared false left m e f = e
+
+  not-dead : (left k : ℕ) (m : Memory) → k ≤ i → i < k + left → (cell (reclaimed left k m) ≡ unused → ⊥) → test m i ≡ false
+  not-dead zero k m a b f = absurd (omega arith)
+  not-dead (suc left) k m a b f = go (ℕ-discrete i k) (not-dead left (k + 1) (turn (test m k) k m))
+    where
+      after-turn : cell (reclaimed left (k + 1) (turn (test m k) k m)) ≡ unused → ⊥
+      after-turn e = f (rw (reclaimed-next left k m) e)
+
+      go : Dec (i ≡ k) → (k + 1 ≤ i → i < k + 1 + left → (cell (reclaimed left (k + 1) (turn (test m k) k m)) ≡ unused → ⊥) → test (turn (test m k) k m) i ≡ false) → test m i ≡ false
+      go (yes q) ih = here-spared (test m i) left m refl (subst (λ (j : ℕ). cell (reclaimed left (j + 1) (turn (test m j) j m)) ≡ unused → ⊥) (sym q) after-turn)
+      go (no q) ih = sym (same-test m (turn (test m k) k m) (turn-same (test m k) k m q)) ∙ ih (omega arith) (omega arith) after-turn
+
+-- a slot neither skipped nor dead is live
+live-or-dead : (s h g : Bool) → s ≡ false → (not s && not h && g) ≡ false → (not s && (h || not g)) ≡ true
+live-or-dead true h g e d = absurd (not-both true refl e)
+live-or-dead false true g e d = refl
+live-or-dead false false true e d = absurd (not-both true refl d)
+live-or-dead false false false e d = refl
+
+held-not-dead : (s g : Bool) → (not s && false && g) ≡ false
+held-not-dead true g = refl
+held-not-dead false g = refl
+
+-- Slot i has mark x in the memory, by whichever process; it is held here, or has its mark afterwards.
+module _ (n : ℕ) (mode : SharedWalOwnershipMode) (bytes : List ℕ) (m : Memory) (p : Process) (i x : ℕ) (below : i < n) (marked : getD (m .reader-frames) i unused ≡ x) (used : x ≡ unused → ⊥) (owned : getD (m .reader-owners) i 0 ≡ 0 → ⊥) (some : 1 ≤ x) where
+  abbrev Stays : Memory → Type 0
+  Stays m′ = (held p i ≡ true) ⊎ (getD (m′ .reader-frames) i unused ≡ x)
+
+  not-skipped : skipped mode m i ≡ false
+  not-skipped = rw (marked, ne-eqb x unused used, ne-eqb (getD (m .reader-owners) i 0) 0 owned) (and-false (is-fcntl mode))
+
+  is-alive : Stays (apply (reclaim-dead mode bytes p n m) m) → dead mode bytes p m i ≡ false
+  is-alive (inl h) = rw h (held-not-dead (skipped mode m i) (granted bytes i))
+  is-alive (inr e) = not-dead mode bytes p i n 0 m (omega arith) (omega arith) (λ z. used (sym e ∙ z))
+
+  bounded : lowest (probe-tests n mode bytes n m p) ≡ 0 → Stays (apply (reclaim-dead mode bytes p n m) m) → AtMost x (floor-of n mode bytes m p)
+  bounded e h =
+      let r = room n m p (none-applies (probe-tests n mode bytes n m p) e .1 .0) in
+      floor-at-most mode bytes p m n i x below (live-or-dead (skipped mode m i) (held p i) (granted bytes i) not-skipped (is-alive h)) (getD-any (m .reader-frames) i 0 unused (omega arith) ∙ marked) (λ z. (omega arith))
+
+  pub floor-bound : accepted (after (min-active-reader-frame n mode bytes) m p .answer) → Stays (after (min-active-reader-frame n mode bytes) m p .memory) → (f : ℕ) × (after (min-active-reader-frame n mode bytes) m p .answer ≡ frame-found f) × (f ≤ x)
+  unfolding min-active-reader-frame AtMost
+  floor-bound =
+      by-tests (probe-tests n mode bytes n) (λ m p. does (floor-answer (floor-of n mode bytes m p)) (reclaim-dead mode bytes p n) m p) m p Bound (λ k a. absurd a) (λ e a h. go (floor-of n mode bytes m p) (bounded e h))
+    where
+      Bound : Done → Type 0
+      Bound d = accepted (d .answer) → Stays (d .memory) → (f : ℕ) × (d .answer ≡ frame-found f) × (f ≤ x)
+
+      go : (fl : Floor) → AtMost x fl → (f : ℕ) × (floor-answer fl ≡ frame-found f) × (f ≤ x)
+      go (Mark f) h = (f, refl, h)
+      go NoMark h = absurd h
+
+  pub limit-bound : accepted (after (copy-back-limit n mode bytes) m p .answer) → Stays (after (copy-back-limit n mode bytes) m p .memory) → (l : ℕ) × (after (copy-back-limit n mode bytes) m p .answer ≡ value l) × (l ≤ x)
+  unfolding copy-back-limit AtMost
+  limit-bound =
+      by-tests (probe-tests n mode bytes n) (λ m p. does (value (limit-of (m .header .«max_frame») (floor-of n mode bytes m p))) (reclaim-dead mode bytes p n) m p) m p Bound (λ k a. absurd a) (λ e a h. go (floor-of n mode bytes m p) (bounded e h))
+    where
+      Bound : Done → Type 0
+      Bound d = accepted (d .answer) → Stays (d .memory) → (l : ℕ) × (d .answer ≡ value l) × (l ≤ x)
+
+      go : (fl : Floor) → AtMost x fl → (l : ℕ) × (value (limit-of (m .header .«max_frame») fl) ≡ value l) × (l ≤ x)
+      go (Mark f) h = (min (m .header .«max_frame») f, refl, (omega arith))
+      go NoMark h = absurd h

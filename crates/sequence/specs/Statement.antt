@@ -1,0 +1,77 @@
+-- Demand 3, as one statement. Assumes nothing.
+use mathlib.Core.Path.{_≡_}
+use mathlib.Core.List.{List, [], _∷_, _++_}
+use Prim.Native.Nat.{ℕ, _≤_}
+use Rattle.wal_types.specs.Call.{Pair, Answer, value, frame-found, listed}
+use Rattle.frame_index.specs.declared.find.Watermark.{Watermark}
+use Rattle.frame_index.specs.declared.find.Watermark.the-variants.{UpTo, NoWatermark}
+use Rattle.frame_index.specs.Find.{lookup-answer}
+use Rattle.grown_index.specs.Entries.{greatest}
+use Rattle.grown_index.specs.Listed.{IsListOf}
+use Rattle.sequence.specs.Sequence.{Settings, Op, record-op, rollback-op, find-op, list-op, register-op, share-op, move-op, release-op, unshare-op, floor-op, limit-op, db-reader-op, acquire-op, unlock-op, commit-op, backfill-op, seq-op, epoch-op, World, Event, answer-of, next, run, FreshWorld, Throughout}
+use Rattle.sequence.specs.Book.{Book, empty-book, book-after, InPairs}
+use Rattle.sequence.specs.Hold.{accepted, holders-after, Kind, Begins, Lasts, KeepsAbove, LeavesSlot}
+
+-- A sequence of calls from a fresh world: those before, the one that begins a hold of slot i at mark m, those during the hold, and
+-- one more call now.
+module _ (s : Settings) (start : ℕ) (fresh : World) (before : List Event) (begin : Event) (during : List Event) (now : Event) (kind : Kind) (i m : ℕ) where
+  -- the world in which the hold begins, the one after that call, and the one in which the call now is made
+  abbrev pub at-begin : World
+  at-begin = run s before fresh
+
+  abbrev pub at-hold : World
+  at-hold = next s begin at-begin
+
+  abbrev pub at-now : World
+  at-now = run s during at-hold
+
+  -- the book as it stood when the hold began
+  abbrev pub book : Book
+  book = book-after s before fresh empty-book
+
+  -- The premises of demand 3, each with its words.
+  pub record Premises : Type 0 where
+    -- "from fresh memory, whichever process makes each"
+    pub from-fresh : FreshWorld s start fresh
+    -- "for every hold at mark m in it"
+    pub begins : Begins s at-begin (holders-after s (begin .who) m before fresh 0) begin kind i m
+    -- "m is at least 1, in the index and published when the hold begins"
+    pub at-least-one : 1 ≤ m
+    pub in-index : InPairs m (book .pairs)
+    pub is-published : m ≤ book .published
+    -- "during the hold": it is not over before the call now
+    pub lasts : Lasts kind s (begin .who) i m during at-hold
+    -- "while the hold lasts, no rollback goes below m"
+    pub no-rollback-below : Throughout (KeepsAbove s m) s during at-hold
+    -- "and no other process changes its slot"
+    pub slot-left : Throughout (LeavesSlot s (begin .who) i) s (during ++ (now ∷ [])) at-hold
+
+  -- What is owed of the call now, if it is accepted: "each lookup or list up to m, without a watermark, answers by the book as it
+  -- stood when the hold began"; "each floor exists and is at most m"; an accepted copy-back limit is at most m.
+  abbrev pub Owed : Op → Answer → Type 0
+  Owed (find-op page low high NoWatermark) a = high ≤ m → accepted a → a ≡ lookup-answer (greatest (book .pairs) page low high)
+  Owed (find-op page low high (UpTo w)) a = Unit {0}
+  Owed (list-op low high room-pages room-frames) a = high ≤ m → accepted a → (l : List Pair) × (a ≡ listed l) × IsListOf (book .pairs) low high l
+  Owed (floor-op bytes) a = accepted a → (f : ℕ) × (a ≡ frame-found f) × (f ≤ m)
+  Owed (limit-op bytes) a = accepted a → (l : ℕ) × (a ≡ value l) × (l ≤ m)
+  Owed (record-op page frame grow) a = Unit {0}
+  Owed (rollback-op bound) a = Unit {0}
+  Owed (register-op owner mark bytes) a = Unit {0}
+  Owed (share-op owner mark bytes) a = Unit {0}
+  Owed (move-op slot owner mark) a = Unit {0}
+  Owed (release-op slot owner) a = Unit {0}
+  Owed (unshare-op mark slot owner) a = Unit {0}
+  Owed (db-reader-op bytes) a = Unit {0}
+  Owed (acquire-op lock owner byte) a = Unit {0}
+  Owed (unlock-op lock owner) a = Unit {0}
+  Owed (commit-op frame c1 c2 count) a = Unit {0}
+  Owed (backfill-op n) a = Unit {0}
+  Owed seq-op a = Unit {0}
+  Owed epoch-op a = Unit {0}
+
+-- Demand 3: under the premises, what is owed is there. One theorem over every sequence of calls, for every hold in it.
+unfoldable pub Demand3 : Type 0
+Demand3 =
+    (s : Settings) (start : ℕ) (fresh : World) (before : List Event) (begin : Event) (during : List Event) (now : Event) (kind : Kind) (i m : ℕ)
+    → Premises s start fresh before begin during now kind i m
+    → Owed s start fresh before begin during now kind i m (now .op) (answer-of s now (at-now s start fresh before begin during now kind i m))

@@ -1,0 +1,3 @@
+-- Marks that several connections of a process share.
+pub mod Registry
+pub mod Shared

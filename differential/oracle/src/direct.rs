@@ -1,0 +1,65 @@
+//! One process's calls on the Rust with nothing around them, to measure. The file double only answers.
+
+use crate::io::MappedFile;
+use crate::shared_wal_coordination::peek::Process;
+use crate::sync::Arc;
+use calls::memory::{Header, Settings};
+use std::sync::atomic::{AtomicU64, Ordering};
+
+pub struct Direct(Process);
+
+/// Paths differ, since the Rust allows one mapping of a path in a process.
+static OPENED: AtomicU64 = AtomicU64::new(0);
+
+impl Direct {
+    /// Fresh memory with all blocks in use. Locks and growth are granted.
+    pub fn new(settings: &Settings) -> Self {
+        let file = Arc::new(MappedFile::new(settings.max_blocks as usize));
+        file.set_lock(1);
+        let opened = OPENED.fetch_add(1, Ordering::Relaxed);
+        let process = Process::open(file, &format!("direct-{opened}"), settings);
+        process.set_index_settings(settings.capacity, settings.max_blocks);
+        process.set_header(&Header { frame_index_blocks: settings.max_blocks, ..Header::default() });
+        Self(process)
+    }
+
+    #[inline]
+    pub fn record_frame(&self, page: u64, frame: u64) {
+        self.0.record_frame(page, frame);
+    }
+
+    #[inline]
+    pub fn rollback_frames(&self, bound: u64) {
+        self.0.rollback_frames(bound);
+    }
+
+    #[inline]
+    pub fn find_frame(&self, page: u64, min: u64, max: u64, watermark: Option<u64>) -> Option<u64> {
+        self.0.find_frame(page, min, max, watermark)
+    }
+
+    #[inline]
+    pub fn iter_latest_frames(&self, min: u64, max: u64) -> Vec<(u64, u64)> {
+        self.0.iter_latest_frames(min, max)
+    }
+
+    #[inline]
+    pub fn publish_commit(&self, max_frame: u64, checksum_1: u32, checksum_2: u32, transaction_count: u64) {
+        self.0.publish_commit(max_frame, checksum_1, checksum_2, transaction_count);
+    }
+
+    #[inline]
+    pub fn try_acquire_writer(&self, owner: u64) -> bool {
+        self.0.try_acquire_writer(owner)
+    }
+
+    #[inline]
+    pub fn release_writer(&self, owner: u64) {
+        self.0.release_writer(owner);
+    }
+
+    #[inline]
+    pub fn bump_checkpoint_seq(&self) -> u32 {
+        self.0.bump_checkpoint_seq()
+    }
+}

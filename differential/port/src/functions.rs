@@ -1,0 +1,118 @@
+//! The C functions of the port's static library.
+
+use calls::memory::Header;
+
+#[repr(C)]
+pub struct Bumped {
+    pub header: Header,
+    pub value: u32,
+}
+
+#[repr(C)]
+pub struct LockReply {
+    pub refusal: u32,
+    pub answer: u32,
+    pub header: Header,
+    pub local_owner: u64,
+}
+
+/// The answer of a record or a rollback.
+#[repr(C)]
+pub struct IndexReply {
+    pub refusal: u32,
+    pub answer: u32,
+    pub header: Header,
+}
+
+#[repr(C)]
+pub struct FindReply {
+    pub refusal: u32,
+    pub found: u32,
+    pub frame: u64,
+}
+
+#[repr(C)]
+pub struct ListReply {
+    pub refusal: u32,
+    pub count: u64,
+}
+
+// A slice of the port is a pointer and a length.
+extern "C" {
+    pub fn wal_owner_new(pid: u32, instance_id: u32) -> u64;
+    pub fn wal_owner_pid(owner: u64) -> u32;
+    pub fn wal_owner_instance_id(owner: u64) -> u32;
+    pub fn wal_publish_commit(
+        header: *mut Header,
+        max_frame: u64,
+        checksum_1: u32,
+        checksum_2: u32,
+        transaction_count: u64,
+    );
+    pub fn wal_publish_backfill(header: Header, nbackfills: u64) -> Header;
+    pub fn wal_bump_checkpoint_seq(header: Header) -> Bumped;
+    pub fn wal_bump_checkpoint_epoch(header: Header) -> Bumped;
+    pub fn wal_try_acquire_writer(header: Header, local_owner: u64, owner: u64, card: u8) -> LockReply;
+    pub fn wal_try_acquire_checkpoint(header: Header, local_owner: u64, owner: u64, card: u8) -> LockReply;
+    pub fn wal_release_writer(mode: u32, header: Header, local_owner: u64, owner: u64) -> LockReply;
+    pub fn wal_release_checkpoint(mode: u32, header: Header, local_owner: u64, owner: u64) -> LockReply;
+    pub fn wal_record_frame(
+        capacity: u32,
+        max_blocks: u32,
+        header: Header,
+        pages: *mut u64,
+        pages_len: usize,
+        frames: *mut u64,
+        frames_len: usize,
+        hash: *mut u16,
+        hash_len: usize,
+        page: u64,
+        frame: u64,
+        grow: u32,
+    ) -> IndexReply;
+    pub fn wal_rollback_frames(
+        capacity: u32,
+        max_blocks: u32,
+        header: Header,
+        pages: *const u64,
+        pages_len: usize,
+        frames: *const u64,
+        frames_len: usize,
+        hash: *mut u16,
+        hash_len: usize,
+        bound: u64,
+    ) -> IndexReply;
+    pub fn wal_find_frame(
+        capacity: u32,
+        max_blocks: u32,
+        header: Header,
+        pages: *const u64,
+        pages_len: usize,
+        frames: *const u64,
+        frames_len: usize,
+        hash: *const u16,
+        hash_len: usize,
+        page: u64,
+        min: u64,
+        max: u64,
+        has_watermark: u32,
+        watermark: u64,
+    ) -> FindReply;
+    pub fn wal_iter_latest_frames(
+        capacity: u32,
+        max_blocks: u32,
+        header: Header,
+        pages: *const u64,
+        pages_len: usize,
+        frames: *const u64,
+        frames_len: usize,
+        hash: *const u16,
+        hash_len: usize,
+        min: u64,
+        max: u64,
+        out_pages: *mut u64,
+        out_pages_len: usize,
+        out_frames: *mut u64,
+        out_frames_len: usize,
+    ) -> ListReply;
+}
