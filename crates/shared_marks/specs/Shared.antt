@@ -1,4 +1,5 @@
 -- register_reader_for_snapshot, register_db_file_reader and unregister_reader_for_snapshot (document 01, "Readers"). Assumes nothing.
+use mathlib.Core.Path.{_≡_}
 use mathlib.Core.Bool.{Bool, true, false, not, _&&_, _||_, cond}
 use mathlib.Core.List.{List, [], _∷_}
 use Prim.Native.Nat.{ℕ}
@@ -9,14 +10,16 @@ use Rattle.wal_types.specs.declared.SharedWalOwnershipMode.{SharedWalOwnershipM
 use Rattle.wal_types.specs.Settings.{slots-in-limits, unused, most-holders}
 use Rattle.wal_types.specs.Memory.{Memory, Process, no-mark}
 use Rattle.wal_types.specs.Refusal.{Test, _if_, settings, short-memory, slot-number, not-held, other-owner, no-owner, unused-mark, no-such-mark, registry-full, card}
-use Rattle.wal_types.specs.Call.{Call, Outcome, slot-taken, ok, unless}
+use Rattle.wal_types.specs.Call.{Call, Answer, refused, slot-taken, none, ok, unless, after, done}
 use Rattle.readers.specs.declared.slots.Slot.{Slot}
 use Rattle.readers.specs.declared.slots.Slot.the-variants.{At as SlotAt, Nothing as NoSlot}
-use Rattle.readers.specs.Slots.{short-slots, bad-card, held}
+use Rattle.readers.specs.Slots.{short-slots, bad-card, held, slots-in}
 use Rattle.readers.specs.Register.{chosen-slot, registers}
 use Rattle.readers.specs.Update.{not-owner, releases-slot}
 use Rattle.shared_marks.specs.declared.registry.Record.{Record}
 use Rattle.shared_marks.specs.declared.registry.Record.the-variants.{At, Nothing}
+use Rattle.shared_marks.specs.declared.shared.Share.{Share}
+use Rattle.shared_marks.specs.declared.shared.Share.the-variants.{Taken, NoSlot as NotTaken, Refused as NotShared}
 use Rattle.shared_marks.specs.Registry.{record-of, empty-record, one-more, one-less, with-record}
 
 -- Refusal 2 of the calls on the registry.
@@ -111,3 +114,25 @@ unshares mode slot Nothing m p = record { answer = ok; stores = []; process = p 
 unfoldable pub unregister-reader-for-snapshot : ℕ → SharedWalOwnershipMode → ℕ → ℕ → ℕ → Call
 unregister-reader-for-snapshot n mode mark slot owner =
     unless (unshare-tests n mode mark slot owner) (λ m p. unshares mode slot (record-of n (p .registry) mark) m p)
+
+-- what each case of the answer tells
+abbrev pub share-answer : Share → Answer
+share-answer (Taken slot owner mark) = slot-taken slot (owner .0) mark
+share-answer NotTaken = none
+share-answer (NotShared k) = refused k
+
+-- the process with these local owners and this registry
+abbrev pub registry-in : Process → List ℕ → List SharedReadMark → Process
+registry-in p l r =
+    record {
+      local-readers = l;
+      local-writer = p .local-writer;
+      local-checkpoint = p .local-checkpoint;
+      registry = r;
+    }
+
+-- The call on any memory with the lists b, f and o in it, by any process with the local owners l and the registry r: it
+-- answers a, leaves the lists b′, f′, o′ and l′ and the registry r′, and changes nothing else.
+abbrev pub SharedCall : Call → List ℕ → List ℕ → List ℕ → List ℕ → List SharedReadMark → Answer → List ℕ → List ℕ → List ℕ → List ℕ → List SharedReadMark → Type 0
+SharedCall call b f o l r a b′ f′ o′ l′ r′ =
+    (z : Memory) (p : Process) → after call (slots-in z b f o) (registry-in p l r) ≡ done a (slots-in z b′ f′ o′) (registry-in p l′ r′)

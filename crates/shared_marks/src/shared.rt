@@ -1,0 +1,511 @@
+// register_reader_for_snapshot, register_db_file_reader and unregister_reader_for_snapshot.
+use crate::registry;
+use crate::registry::Record;
+use crate::registry::Seen;
+use readers::register;
+use readers::register::Register;
+use readers::slots;
+use readers::slots::Slot;
+use readers::update;
+use readers::update::Release;
+use wal_types::DB_FILE_READER_FRAME;
+use wal_types::SharedOwnerRecord;
+use wal_types::SharedReadMark;
+use wal_types::SharedWalOwnershipMode;
+use wal_types::UNOWNED_LOCK;
+use wal_types::UNUSED_READER_FRAME;
+ghost use mathlib.Core.Path.{_≡_};
+ghost use Prim.Native.Nat.{_+_, _/_, _≤_};
+ghost use lib.ListN.{length};
+ghost use Rattle.readers.specs.Floor.{some-slot};
+ghost use Rattle.readers.specs.Update.{release-answer};
+ghost use Rattle.shared_marks.specs.Registry.{one-less};
+ghost use Rattle.shared_marks.specs.Shared.{register-reader-for-snapshot, register-db-file-reader, unregister-reader-for-snapshot, share-answer, SharedCall};
+ghost use Rattle.shared_marks.specs.Inner.{share-refusal, stale-cell, stale-by, no-record-answer, mark-refusal, last-refusal, PlanCall};
+
+// Taken is the reader's slot with its owner, who is the first holder, and its mark. Refused changes nothing, and neither
+// does NoSlot.
+pub enum Share {
+    Taken(u32, SharedOwnerRecord, u64),
+    NoSlot,
+    Refused(u32),
+}
+
+// What a shared registration does to the registry: one record to store, past the end if none is. And its answer.
+pub struct SharePlan {
+    pub at: usize,
+    pub item: SharedReadMark,
+    pub answer: Share,
+}
+
+// Refusal 1, 2, 9 or 10, by the lengths of the lent parts, the owner and the mark; 0 for none of them.
+fn share_refusal(
+    n: usize,
+    bitmap: usize,
+    reader_frames: usize,
+    reader_owners: usize,
+    local_readers: usize,
+    records: usize,
+    owner: u64,
+    mark: u64,
+) -> u32
+    ensures { λ r. ⌜ r ≡ share-refusal n bitmap «reader_frames» «reader_owners» «local_readers» records owner mark ⌝ }
+{
+    let refusal = slots::slots_refusal(n, bitmap, reader_frames, reader_owners, local_readers);
+    if refusal != 0 {
+        return refusal;
+    }
+    if records < n {
+        return 2;
+    }
+    if owner == UNOWNED_LOCK {
+        return 9;
+    }
+    if mark == UNUSED_READER_FRAME {
+        return 10;
+    }
+    0
+}
+
+// A slot that is reclaimed: its bit 0, not held here, granted, and in ProcessScopedFcntl mode with an owner.
+fn is_stale(mode: SharedWalOwnershipMode, bit: u64, owner: u64, local_owner: u64, card: u8) -> bool
+    ensures { λ r. ⌜ r ≡ stale-cell mode bit owner «local_owner» card ⌝ }
+{
+    if bit == 1 {
+        return false;
+    }
+    if local_owner != 0 {
+        return false;
+    }
+    if card != 1 {
+        return false;
+    }
+    if slots::is_ownerless(mode, owner) {
+        return false;
+    }
+    true
+}
+
+// Whether some slot would be reclaimed.
+fn some_stale(
+    n: usize,
+    mode: SharedWalOwnershipMode,
+    bitmap: &[u64],
+    reader_owners: &[u64],
+    local_readers: &[u64],
+    card: &[u8],
+) -> bool
+    requires { ⌜ (n ≤ 256) × (((n + 63) / 64 ≤ length (now bitmap)) × ((n ≤ length (now «reader_owners»)) × ((n ≤ length (now «local_readers»)) × (n ≤ length (now card))))) ⌝ }
+    ensures { λ r. ⌜ r ≡ some-slot (stale-by mode (now (card .entry)) (now (bitmap .entry)) (now («reader_owners» .entry)) (now («local_readers» .entry))) n 0 ⌝ }
+{
+    for slot in 0..n {
+        let bit = bitmap::bit(bitmap[slot / 64], (slot % 64) as u32);
+        if is_stale(
+            mode,
+            bit,
+            reader_owners[slot],
+            local_readers[slot],
+            card[slot],
+        ) {
+            return true;
+        }
+    }
+    false
+}
+
+// The answer to a new mark where no record is empty: refused if a slot could be taken.
+fn without_record(
+    n: usize,
+    mode: SharedWalOwnershipMode,
+    bitmap: &[u64],
+    reader_owners: &[u64],
+    local_readers: &[u64],
+    card: &[u8],
+) -> Share
+    requires { ⌜ (n ≤ 256) × (((n + 63) / 64 ≤ length (now bitmap)) × ((n ≤ length (now «reader_owners»)) × ((n ≤ length (now «local_readers»)) × (n ≤ length (now card))))) ⌝ }
+    ensures { λ r. ⌜ r ≡ no-record-answer n mode (now (card .entry)) (now (bitmap .entry)) (now («reader_owners» .entry)) (now («local_readers» .entry)) ⌝ }
+{
+    if let Slot::At(slot) = register::available_slot(n, bitmap, local_readers, card) {
+        return Share::Refused(13);
+    }
+    if some_stale(n, mode, bitmap, reader_owners, local_readers, card) {
+        return Share::Refused(13);
+    }
+    Share::NoSlot
+}
+
+// A shared registration, but for the store of its record.
+fn share_plan(
+    n: usize,
+    mode: SharedWalOwnershipMode,
+    bitmap: &mut [u64],
+    reader_frames: &mut [u64],
+    reader_owners: &mut [u64],
+    local_readers: &mut [u64],
+    records: usize,
+    seen: Seen,
+    card: &[u8],
+    owner: SharedOwnerRecord,
+    mark: u64,
+) -> SharePlan
+    ensures { λ r. ⌜ PlanCall n mark seen records (register-reader-for-snapshot n mode (owner .0) mark (now (card .entry))) (now (bitmap .entry)) (now («reader_frames» .entry)) (now («reader_owners» .entry)) (now («local_readers» .entry)) (share-answer (r .answer)) (now (bitmap .exit)) (now («reader_frames» .exit)) (now («reader_owners» .exit)) (now («local_readers» .exit)) (r .at) (r .item) ⌝ }
+{
+    let place = seen.place;
+    let item = seen.item;
+    let empty = seen.empty;
+    let refusal = share_refusal(
+        n,
+        bitmap.len(),
+        reader_frames.len(),
+        reader_owners.len(),
+        local_readers.len(),
+        records,
+        owner.0,
+        mark,
+    );
+    if refusal != 0 {
+        return SharePlan {
+            at: records,
+            item: item,
+            answer: Share::Refused(refusal),
+        };
+    }
+    if let Record::At(found) = place {
+        if 65535 <= item.holders {
+            return SharePlan {
+                at: records,
+                item: item,
+                answer: Share::Refused(13),
+            };
+        }
+        if slots::bad_card(n, card) {
+            return SharePlan {
+                at: records,
+                item: item,
+                answer: Share::Refused(14),
+            };
+        }
+        let mut kept = item;
+        kept.holders = item.holders + 1;
+        let first = SharedOwnerRecord(item.owner.0);
+        return SharePlan {
+            at: found,
+            item: kept,
+            answer: Share::Taken(item.slot, first, mark),
+        };
+    }
+    if slots::bad_card(n, card) {
+        return SharePlan {
+            at: records,
+            item: item,
+            answer: Share::Refused(14),
+        };
+    }
+    let Record::At(free) = empty else {
+        let answer = without_record(n, mode, bitmap, reader_owners, local_readers, card);
+        return SharePlan {
+            at: records,
+            item: item,
+            answer: answer,
+        };
+    };
+    let Register::Taken(slot) = register::register_reader(
+        n,
+        mode,
+        bitmap,
+        reader_frames,
+        reader_owners,
+        local_readers,
+        card,
+        owner,
+        mark,
+    ) else {
+        return SharePlan {
+            at: records,
+            item: item,
+            answer: Share::NoSlot,
+        };
+    };
+    let taken = SharedReadMark {
+        mark: mark,
+        slot: slot as u32,
+        owner: owner,
+        holders: 1,
+    };
+    SharePlan {
+        at: free,
+        item: taken,
+        answer: Share::Taken(slot as u32, owner, mark),
+    }
+}
+
+// Takes a reader slot at a mark, or joins the connections of this process that share the mark already.
+pub fn register_reader_for_snapshot(
+    n: usize,
+    mode: SharedWalOwnershipMode,
+    bitmap: &mut [u64],
+    reader_frames: &mut [u64],
+    reader_owners: &mut [u64],
+    local_readers: &mut [u64],
+    registry: &mut [SharedReadMark],
+    card: &[u8],
+    owner: SharedOwnerRecord,
+    mark: u64,
+) -> Share
+    ensures { λ r. ⌜ SharedCall (register-reader-for-snapshot n mode (owner .0) mark (now (card .entry))) (now (bitmap .entry)) (now («reader_frames» .entry)) (now («reader_owners» .entry)) (now («local_readers» .entry)) (now (registry .entry)) (share-answer r) (now (bitmap .exit)) (now («reader_frames» .exit)) (now («reader_owners» .exit)) (now («local_readers» .exit)) (now (registry .exit)) ⌝ }
+{
+    let records = registry.len();
+    let seen = registry::look_through(registry, n, mark);
+    let plan = share_plan(
+        n,
+        mode,
+        bitmap,
+        reader_frames,
+        reader_owners,
+        local_readers,
+        records,
+        seen,
+        card,
+        owner,
+        mark,
+    );
+    registry::store_record(registry, plan.at, plan.item);
+    plan.answer
+}
+
+// Registers a reader of the database file alone. All of them in this process share one slot.
+pub fn register_db_file_reader(
+    n: usize,
+    mode: SharedWalOwnershipMode,
+    bitmap: &mut [u64],
+    reader_frames: &mut [u64],
+    reader_owners: &mut [u64],
+    local_readers: &mut [u64],
+    registry: &mut [SharedReadMark],
+    card: &[u8],
+    owner: SharedOwnerRecord,
+) -> Share
+    ensures { λ r. ⌜ SharedCall (register-db-file-reader n mode (owner .0) (now (card .entry))) (now (bitmap .entry)) (now («reader_frames» .entry)) (now («reader_owners» .entry)) (now («local_readers» .entry)) (now (registry .entry)) (share-answer r) (now (bitmap .exit)) (now («reader_frames» .exit)) (now («reader_owners» .exit)) (now («local_readers» .exit)) (now (registry .exit)) ⌝ }
+{
+    register_reader_for_snapshot(
+        n,
+        mode,
+        bitmap,
+        reader_frames,
+        reader_owners,
+        local_readers,
+        registry,
+        card,
+        owner,
+        DB_FILE_READER_FRAME,
+    )
+}
+
+// What a shared release does to the registry: one record to store, past the end if none is. And its answer.
+pub struct UnsharePlan {
+    pub at: usize,
+    pub item: SharedReadMark,
+    pub answer: Release,
+}
+
+// The record with a holder less.
+fn with_holder_less(item: SharedReadMark) -> SharedReadMark
+    ensures { λ r. ⌜ r ≡ one-less item ⌝ }
+{
+    let mut next = item;
+    if 0 < item.holders {
+        next.holders = item.holders - 1;
+    }
+    next
+}
+
+// Refusal 9, 10 or 12, by the owner, the mark and whether both are registered; 0 for none of them.
+fn mark_refusal(owner: u64, mark: u64, registered: bool) -> u32
+    ensures { λ r. ⌜ r ≡ mark-refusal owner mark registered ⌝ }
+{
+    if owner == UNOWNED_LOCK {
+        return 9;
+    }
+    if mark == UNUSED_READER_FRAME {
+        return 10;
+    }
+    if registered {
+        return 0;
+    }
+    12
+}
+
+// Refusal 7 or 8 of the last holder, by the slot's shared and local owners; 0 for neither. LinuxOfd does not compare the
+// local one.
+fn last_refusal(
+    mode: SharedWalOwnershipMode,
+    owner: u64,
+    shared_owner: u64,
+    local_owner: u64,
+) -> u32
+    ensures { λ r. ⌜ r ≡ last-refusal mode owner «shared_owner» «local_owner» ⌝ }
+{
+    if local_owner == UNOWNED_LOCK {
+        return 7;
+    }
+    if owner != shared_owner {
+        return 8;
+    }
+    if owner == local_owner {
+        return 0;
+    }
+    match mode {
+        SharedWalOwnershipMode::LinuxOfd => 0,
+        SharedWalOwnershipMode::ProcessScopedFcntl => 8,
+    }
+}
+
+// A shared release, but for the store of its record.
+fn unshare_plan(
+    n: usize,
+    mode: SharedWalOwnershipMode,
+    bitmap: &mut [u64],
+    reader_frames: &mut [u64],
+    reader_owners: &mut [u64],
+    local_readers: &mut [u64],
+    records: usize,
+    seen: Seen,
+    mark: u64,
+    slot: usize,
+    owner: SharedOwnerRecord,
+) -> UnsharePlan
+    ensures { λ r. ⌜ PlanCall n mark seen records (unregister-reader-for-snapshot n mode mark slot (owner .0)) (now (bitmap .entry)) (now («reader_frames» .entry)) (now («reader_owners» .entry)) (now («local_readers» .entry)) (release-answer (r .answer)) (now (bitmap .exit)) (now («reader_frames» .exit)) (now («reader_owners» .exit)) (now («local_readers» .exit)) (r .at) (r .item) ⌝ }
+{
+    let place = seen.place;
+    let item = seen.item;
+    let refusal = slots::slots_refusal(
+        n,
+        bitmap.len(),
+        reader_frames.len(),
+        reader_owners.len(),
+        local_readers.len(),
+    );
+    if refusal != 0 {
+        return UnsharePlan {
+            at: records,
+            item: item,
+            answer: Release::Refused(refusal),
+        };
+    }
+    if records < n {
+        return UnsharePlan {
+            at: records,
+            item: item,
+            answer: Release::Refused(2),
+        };
+    }
+    if n <= slot {
+        return UnsharePlan {
+            at: records,
+            item: item,
+            answer: Release::Refused(6),
+        };
+    }
+    let Record::At(found) = place else {
+        let absent = mark_refusal(owner.0, mark, false);
+        return UnsharePlan {
+            at: records,
+            item: item,
+            answer: Release::Refused(absent),
+        };
+    };
+    if item.slot as usize != slot {
+        let other = mark_refusal(owner.0, mark, false);
+        return UnsharePlan {
+            at: records,
+            item: item,
+            answer: Release::Refused(other),
+        };
+    }
+    if item.owner.0 != owner.0 {
+        let other = mark_refusal(owner.0, mark, false);
+        return UnsharePlan {
+            at: records,
+            item: item,
+            answer: Release::Refused(other),
+        };
+    }
+    let less = with_holder_less(item);
+    let by_mark = mark_refusal(owner.0, mark, true);
+    if item.holders != 1 {
+        if by_mark != 0 {
+            return UnsharePlan {
+                at: records,
+                item: item,
+                answer: Release::Refused(by_mark),
+            };
+        }
+        return UnsharePlan {
+            at: found,
+            item: less,
+            answer: Release::Released,
+        };
+    }
+    let by_slot = last_refusal(mode, owner.0, reader_owners[slot], local_readers[slot]);
+    if by_slot != 0 {
+        return UnsharePlan {
+            at: records,
+            item: item,
+            answer: Release::Refused(by_slot),
+        };
+    }
+    if by_mark != 0 {
+        return UnsharePlan {
+            at: records,
+            item: item,
+            answer: Release::Refused(by_mark),
+        };
+    }
+    update::release_slot(
+        mode,
+        bitmap,
+        reader_frames,
+        reader_owners,
+        local_readers,
+        slot,
+    );
+    UnsharePlan {
+        at: found,
+        item: less,
+        answer: Release::Released,
+    }
+}
+
+// Releases a shared mark: a holder less, and the last one empties the slot.
+pub fn unregister_reader_for_snapshot(
+    n: usize,
+    mode: SharedWalOwnershipMode,
+    bitmap: &mut [u64],
+    reader_frames: &mut [u64],
+    reader_owners: &mut [u64],
+    local_readers: &mut [u64],
+    registry: &mut [SharedReadMark],
+    mark: u64,
+    slot: usize,
+    owner: SharedOwnerRecord,
+) -> Release
+    ensures { λ r. ⌜ SharedCall (unregister-reader-for-snapshot n mode mark slot (owner .0)) (now (bitmap .entry)) (now («reader_frames» .entry)) (now («reader_owners» .entry)) (now («local_readers» .entry)) (now (registry .entry)) (release-answer r) (now (bitmap .exit)) (now («reader_frames» .exit)) (now («reader_owners» .exit)) (now («local_readers» .exit)) (now (registry .exit)) ⌝ }
+{
+    let records = registry.len();
+    let seen = registry::look_through(registry, n, mark);
+    let plan = unshare_plan(
+        n,
+        mode,
+        bitmap,
+        reader_frames,
+        reader_owners,
+        local_readers,
+        records,
+        seen,
+        mark,
+        slot,
+        owner,
+    );
+    registry::store_record(registry, plan.at, plan.item);
+    plan.answer
+}
