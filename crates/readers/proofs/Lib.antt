@@ -11,6 +11,7 @@ pub mod Cells
 pub mod Looked
 pub mod Live
 pub mod Floored
+pub mod Limited
 pub mod Kept
 pub mod Taken
 pub mod Least
