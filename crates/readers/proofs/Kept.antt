@@ -17,7 +17,6 @@ use Rattle.bitmap.specs.Bit.{set-bit, clear-bit}
 use Rattle.bitmap.proofs.Bits.{set-other, clear-other}
 use Rattle.readers.specs.Slots.{is-fcntl, held, is-free, granted, take-slot, empty-slot, empty-slots}
 use Rattle.readers.specs.Register.{reclaimable, reclaim-all}
-use Rattle.readers.specs.Floor.{skipped, dead, reclaim-dead}
 use Rattle.readers.specs.Inner.{emptied-if}
 use Rattle.readers.proofs.Calls.{apply-append}
 
@@ -82,19 +81,12 @@ module _ (mode : SharedWalOwnershipMode) (test : Memory → ℕ → Bool) (j : �
       rw (apply-append (when (test m i) (empty-slot mode i) m) (empty-slots mode test left (i + 1) (emptied-if mode (test m i) i m)) m)
       (slot-same-then j m (emptied-if mode (test m i) i m) (apply (empty-slots mode test left (i + 1) (emptied-if mode (test m i) i m)) (emptied-if mode (test m i) i m)) (emptied-if-keeps (test m i) i m refl) (emptied-keeps left (i + 1) (emptied-if mode (test m i) i m)))
 
--- a slot held here is neither stale nor dead
+-- a slot held here is not stale
 second-false : (a c d : Bool) → (a && false && c && d) ≡ false
 second-false true c d = refl
 second-false false c d = refl
-
-middle-false : (a c : Bool) → (a && false && c) ≡ false
-middle-false true c = refl
-middle-false false c = refl
 
 module _ (n : ℕ) (mode : SharedWalOwnershipMode) (bytes : List ℕ) (p : Process) (j : ℕ) (here : held p j ≡ true) where
   pub reclaim-keeps : (m : Memory) → SlotSame j m (apply (reclaim-all n mode bytes p m) m)
   reclaim-keeps m =
       emptied-keeps mode (reclaimable mode bytes p) j (λ x. rw here (second-false (not (is-free x j)) (granted bytes j) (not (is-fcntl mode && eqb (getD (x .reader-owners) j 0) 0)))) n 0 m
-
-  pub dead-keeps : (looked : ℕ) (m : Memory) → SlotSame j m (apply (reclaim-dead mode bytes p looked m) m)
-  dead-keeps looked m = emptied-keeps mode (dead mode bytes p) j (λ x. rw here (middle-false (not (skipped mode x j)) (granted bytes j))) looked 0 m

@@ -1,23 +1,19 @@
 -- Words for the contracts of the inner functions, by the calls' own definitions. No contract of a call cites them. Assumes nothing.
 use mathlib.Core.Path.{_≡_}
-use mathlib.Core.Bool.{Bool, true, false, not, _&&_, _||_, cond}
+use mathlib.Core.Bool.{Bool, not, _&&_, cond}
 use mathlib.Core.List.{List, [], _∷_}
 use Prim.Native.Nat.{ℕ, _+_, _-_, _<_, max}
 use lib.Dec.{eqb, ltb}
 use lib.ListN.{getD}
 use Rattle.wal_types.specs.declared.SharedWalOwnershipMode.{SharedWalOwnershipMode}
-use Rattle.wal_types.specs.Settings.{slots-in-limits, unused}
+use Rattle.wal_types.specs.Settings.{slots-in-limits}
 use Rattle.wal_types.specs.Memory.{Memory, Process, bit-at, slot-bit}
 use Rattle.wal_types.specs.Store.{apply, when}
-use Rattle.wal_types.specs.Refusal.{_if_, lowest, settings, short-memory, card, probe}
+use Rattle.wal_types.specs.Refusal.{_if_, lowest, settings, short-memory}
 use Rattle.readers.specs.declared.slots.Slot.{Slot}
 use Rattle.readers.specs.declared.slots.Slot.the-variants.{At, Nothing}
-use Rattle.readers.specs.declared.slots.Floor.{Floor}
-use Rattle.readers.specs.declared.floor.LiveFrame.{LiveFrame}
-use Rattle.readers.specs.declared.floor.LiveFrame.the-variants.{Frame, NotLive}
-use Rattle.readers.specs.Slots.{is-fcntl, shorter, bad-card, granted, empty-slot, slots-in, locals-in}
-use Rattle.readers.specs.Register.{lowest-slot, first-slot, chosen-slot, reclaim-unless}
-use Rattle.readers.specs.Floor.{some-slot, lower-floor, floor-of, reclaim-dead, looked-at, found-slot}
+use Rattle.readers.specs.Slots.{shorter, granted, empty-slot, slots-in, locals-in}
+use Rattle.readers.specs.Register.{first-slot, chosen-slot, reclaim-unless}
 
 -- the number of refusal 1 or 2, 0 for neither
 unfoldable pub slots-refusal : ℕ → ℕ → ℕ → ℕ → ℕ → ℕ
@@ -59,64 +55,3 @@ Chosen n mode bytes b f o l r b′ f′ o′ =
 -- a slot found is below n
 abbrev pub Below : ℕ → Slot → Type 0
 Below n r = (i : ℕ) → r ≡ At i → i < n
-
--- the floor's tests of a slot, by its frame, owner, local owner and card byte alone
-abbrev pub skipped-cell : SharedWalOwnershipMode → ℕ → ℕ → Bool
-skipped-cell mode frame owner = eqb frame unused || (is-fcntl mode && eqb owner 0)
-
-abbrev pub failed-cell : SharedWalOwnershipMode → ℕ → ℕ → ℕ → ℕ → Bool
-failed-cell mode frame owner local byte =
-    not (is-fcntl mode) && not (skipped-cell mode frame owner) && not (not (eqb local 0)) && eqb byte 2
-
-abbrev pub live-cell : SharedWalOwnershipMode → ℕ → ℕ → ℕ → ℕ → Bool
-live-cell mode frame owner local byte = not (skipped-cell mode frame owner) && (not (eqb local 0) || not (eqb byte 1))
-
--- the same by the slot frames f, the slot owners o and the local owners l
-abbrev pub failed-by : SharedWalOwnershipMode → List ℕ → List ℕ → List ℕ → List ℕ → ℕ → Bool
-failed-by mode bytes f o l i = failed-cell mode (getD f i unused) (getD o i 0) (getD l i 0) (getD bytes i 0)
-
-abbrev pub live-by : SharedWalOwnershipMode → List ℕ → List ℕ → List ℕ → List ℕ → ℕ → Bool
-live-by mode bytes f o l i = live-cell mode (getD f i unused) (getD o i 0) (getD l i 0) (getD bytes i 0)
-
--- a live slot's mark, or none; and the floor so far with it
-abbrev pub live-frame : Bool → ℕ → LiveFrame
-live-frame true frame = Frame frame
-live-frame false frame = NotLive
-
-abbrev pub floor-with : Floor → LiveFrame → Floor
-floor-with so-far (Frame frame) = lower-floor so-far frame
-floor-with so-far NotLive = so-far
-
-abbrev pub is-db-file : LiveFrame → Bool
-is-db-file (Frame frame) = eqb frame 0
-is-db-file NotLive = false
-
--- a live slot of mark 0 whose probe does not fail, by its cells and by lists; and without the probe
-abbrev pub db-file-cell : SharedWalOwnershipMode → ℕ → ℕ → ℕ → ℕ → Bool
-db-file-cell mode frame owner local byte =
-    live-cell mode frame owner local byte && not (failed-cell mode frame owner local byte) && eqb frame 0
-
-abbrev pub db-file-by : SharedWalOwnershipMode → List ℕ → List ℕ → List ℕ → List ℕ → ℕ → Bool
-db-file-by mode bytes f o l i = db-file-cell mode (getD f i unused) (getD o i 0) (getD l i 0) (getD bytes i 0)
-
-abbrev pub live-db-file-by : SharedWalOwnershipMode → List ℕ → List ℕ → List ℕ → List ℕ → ℕ → Bool
-live-db-file-by mode bytes f o l i = live-by mode bytes f o l i && eqb (getD f i unused) 0
-
--- refusal 14 or 15 of a call that probes so many slots, 0 for neither
-unfoldable pub probe-refusal : ℕ → SharedWalOwnershipMode → List ℕ → List ℕ → List ℕ → List ℕ → ℕ → ℕ
-probe-refusal n mode bytes f o l looked =
-    lowest ((card if bad-card n bytes) ∷ (probe if some-slot (failed-by mode bytes f o l) looked 0) ∷ [])
-
--- Any memory with the lists b, f and o in it and any process with the local owners l: the floor is r, and the memory
--- becomes the one with b′, f′ and o′, with the dead slots reclaimed.
-unfoldable pub FloorOf : ℕ → SharedWalOwnershipMode → List ℕ → List ℕ → List ℕ → List ℕ → List ℕ → Floor → List ℕ → List ℕ → List ℕ → Type 0
-FloorOf n mode bytes b f o l r b′ f′ o′ =
-    (z : Memory) (p : Process) →
-    (floor-of n mode bytes (slots-in z b f o) (locals-in p l) ≡ r)
-    × (apply (reclaim-dead mode bytes (locals-in p l) n (slots-in z b f o)) (slots-in z b f o) ≡ slots-in z b′ f′ o′)
-
--- The same of the first live slot with mark 0: whether there is one, with the dead slots before it reclaimed.
-unfoldable pub DbFileOf : ℕ → SharedWalOwnershipMode → List ℕ → List ℕ → List ℕ → List ℕ → List ℕ → Bool → List ℕ → List ℕ → List ℕ → Type 0
-DbFileOf n mode bytes b f o l r b′ f′ o′ =
-    (found-slot (lowest-slot (live-db-file-by mode bytes f o l) n 0) ≡ r)
-    × ((z : Memory) (p : Process) → apply (reclaim-dead mode bytes (locals-in p l) (looked-at n (lowest-slot (live-db-file-by mode bytes f o l) n 0)) (slots-in z b f o)) (slots-in z b f o) ≡ slots-in z b′ f′ o′)

@@ -2,6 +2,4 @@
 pub mod Slots
 pub mod Register
 pub mod Update
-pub mod Floor
-pub mod Limit
 pub mod Inner

@@ -1,5 +1,5 @@
 -- register_reader (document 01, "Register"). Assumes nothing.
-use mathlib.Core.Bool.{Bool, not, _&&_, cond}
+use mathlib.Core.Bool.{Bool, true, false, not, _&&_, _||_, cond}
 use mathlib.Core.List.{List, [], _∷_}
 use Prim.Native.Nat.{ℕ, zero, suc, _+_}
 use lib.Dec.{eqb}
@@ -24,6 +24,16 @@ available bytes p m i = not (held p i) && is-free m i && granted bytes i
 unfoldable pub lowest-slot : (ℕ → Bool) → ℕ → ℕ → Slot
 lowest-slot test zero i = Nothing
 lowest-slot test (suc left) i = cond (test i) (At i) (lowest-slot test left (i + 1))
+
+-- whether there is one
+abbrev pub found-slot : Slot → Bool
+found-slot (At i) = true
+found-slot Nothing = false
+
+-- whether the test holds of one of so many slots from this one on
+unfoldable pub some-slot : (ℕ → Bool) → ℕ → ℕ → Bool
+some-slot test zero i = false
+some-slot test (suc left) i = test i || some-slot test left (i + 1)
 
 -- a slot that is reclaimed: its bit 0, not held here, its card 1, and in Fcntl an owner
 abbrev pub reclaimable : SharedWalOwnershipMode → List ℕ → Process → Memory → ℕ → Bool

@@ -1,6 +1,4 @@
 // Reader slots: a reader's mark in a numbered slot of the shared memory, held by a byte lock.
-pub mod floor;
-pub mod limit;
 pub mod register;
 pub mod slots;
 pub mod update;

@@ -19,12 +19,6 @@ pub enum Slot {
     Nothing,
 }
 
-// The floor: the least mark above 0 that is still held, or none.
-pub enum Floor {
-    Mark(u64),
-    NoMark,
-}
-
 pub fn is_fcntl(mode: SharedWalOwnershipMode) -> bool
     ensures { λ r. ⌜ r ≡ is-fcntl mode ⌝ }
 {

@@ -25,8 +25,9 @@ use Rattle.readers.specs.Slots.{empty-slot, empty-slots}
 use Rattle.readers.specs.Register.{reclaim-unless, take-found, first-slot, chosen-slot, registers, register-tests, register-reader}
 use Rattle.readers.specs.Update.{update-tests, update-reader, releases-slot, unregister-reader}
 use Rattle.readers.specs.Update.{release-tests as release-slot-tests}
-use Rattle.readers.specs.Floor.{dead, reclaim-dead, floor-of, floor-answer, probe-tests, db-file-reader, looked-at, found-slot, min-active-reader-frame, has-active-db-file-reader}
-use Rattle.readers.specs.Limit.{limit-of, copy-back-limit}
+use Rattle.reader_floor.specs.Floor.{dead, reclaim-dead, floor-of, floor-answer, probe-tests, db-file-reader, looked-at, min-active-reader-frame, has-active-db-file-reader}
+use Rattle.readers.specs.Register.{found-slot}
+use Rattle.reader_floor.specs.Limit.{limit-of, copy-back-limit}
 use Rattle.shared_marks.specs.declared.registry.Record.{Record}
 use Rattle.shared_marks.specs.declared.registry.Record.the-variants.{At, Nothing}
 use Rattle.shared_marks.specs.Registry.{record-of, one-less, with-record}

@@ -17,14 +17,14 @@ use Rattle.wal_types.specs.Store.{apply, when}
 use Rattle.wal_types.specs.Refusal.{lowest}
 use Rattle.wal_types.specs.Call.{value, frame-found, Done, after, does}
 use Rattle.wal_types.proofs.Stores.{apply-append}
-use Rattle.readers.specs.declared.slots.Floor.{Floor}
-use Rattle.readers.specs.declared.slots.Floor.the-variants.{Mark, NoMark}
+use Rattle.reader_floor.specs.declared.floor.Floor.{Floor}
+use Rattle.reader_floor.specs.declared.floor.Floor.the-variants.{Mark, NoMark}
 use Rattle.readers.specs.Slots.{is-fcntl, held, granted, empty-slot, empty-slots}
-use Rattle.readers.specs.Floor.{skipped, dead, floor-of, floor-answer, probe-tests, reclaim-dead, min-active-reader-frame}
-use Rattle.readers.specs.Limit.{limit-of, copy-back-limit}
+use Rattle.reader_floor.specs.Floor.{skipped, dead, floor-of, floor-answer, probe-tests, reclaim-dead, min-active-reader-frame}
+use Rattle.reader_floor.specs.Limit.{limit-of, copy-back-limit}
 use Rattle.readers.proofs.Cells.{getD-any, and-false}
 use Rattle.readers.proofs.Kept.{SlotSame, slot-same, emptied-other}
-use Rattle.readers.proofs.Least.{AtMost, floor-at-most}
+use Rattle.reader_floor.proofs.Least.{AtMost, floor-at-most}
 use Rattle.sequence.specs.Hold.{accepted}
 use Rattle.sequence.proofs.SlotsAside.{by-tests}
 use Rattle.sequence.proofs.SlotsCells.{not-both, none-applies, room}

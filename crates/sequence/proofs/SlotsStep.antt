@@ -19,9 +19,11 @@ use Rattle.readers.specs.declared.slots.Slot.the-variants.{At as SlotAt, Nothin
 use Rattle.readers.specs.Slots.{held, with-local}
 use Rattle.readers.specs.Register.{chosen-slot, registers, register-tests, register-reader, hold-found}
 use Rattle.readers.specs.Update.{update-tests, update-reader, release-tests, unregister-reader, releases-slot}
-use Rattle.readers.specs.Floor.{floor-of, floor-answer, probe-tests, reclaim-dead, min-active-reader-frame, has-active-db-file-reader, db-file-reader, looked-at, found-slot}
-use Rattle.readers.specs.Limit.{limit-of, copy-back-limit}
-use Rattle.readers.proofs.Kept.{SlotSame, slot-same, emptied-other, dead-keeps}
+use Rattle.reader_floor.specs.Floor.{floor-of, floor-answer, probe-tests, reclaim-dead, min-active-reader-frame, has-active-db-file-reader, db-file-reader, looked-at}
+use Rattle.readers.specs.Register.{found-slot}
+use Rattle.reader_floor.specs.Limit.{limit-of, copy-back-limit}
+use Rattle.readers.proofs.Kept.{SlotSame, slot-same, emptied-other}
+use Rattle.reader_floor.proofs.Kept.{dead-keeps}
 use Rattle.readers.proofs.Taken.{register-keeps}
 use Rattle.shared_marks.specs.Registry.{one-more, one-less}
 use Rattle.sequence.specs.Hold.{accepted}
@@ -95,7 +97,7 @@ module _ (n : ℕ) (mode : SharedWalOwnershipMode) (bytes : List ℕ) (m : Memor
   probes tests a looked =
       by-tests tests (λ x q. does (a x q) (reclaim-dead mode bytes q (looked x q)) x q) m p (λ d. Step n m p d T E)
       (λ k. nothing-done n m p T E none-counted (refused k))
-      (λ e. quiet none-counted (λ j h. dead-keeps n mode bytes p j h (looked m p) m) (λ j h. h) (λ j. refl))
+      (λ e. quiet none-counted (λ j h. dead-keeps mode bytes p j h (looked m p) m) (λ j h. h) (λ j. refl))
 
   pub floor-step : Step n m p (after (min-active-reader-frame n mode bytes) m p) T E
   unfolding min-active-reader-frame

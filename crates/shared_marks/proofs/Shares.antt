@@ -24,11 +24,11 @@ use Rattle.readers.specs.declared.register.Register.{Register}
 use Rattle.readers.specs.declared.register.Register.the-variants.{Taken, NoSlot as Turned, Refused as Denied}
 use Rattle.readers.proofs.register.Register as RegisterType
 use Rattle.readers.specs.Slots.{shorter, bad-card, slots-in, locals-in, ReaderCall}
-use Rattle.readers.specs.Register.{available, lowest-slot, first-slot, second-slot, chosen-slot, either-slot, registers, register-tests, register-reader, reclaim-all, reclaimable, slot-answer, register-answer}
-use Rattle.readers.specs.Floor.{some-slot}
+use Rattle.readers.specs.Register.{found-slot, available, lowest-slot, first-slot, second-slot, chosen-slot, either-slot, registers, register-tests, register-reader, reclaim-all, reclaimable, slot-answer, register-answer}
+use Rattle.readers.specs.Register.{some-slot}
 use Rattle.readers.specs.Inner.{available-by}
 use Rattle.readers.proofs.Calls.{refuses, accepts}
-use Rattle.readers.proofs.Looked.{some-false}
+use Rattle.readers.proofs.Some.{some-false}
 use Rattle.readers.proofs.Taken.{register-took}
 use Rattle.shared_marks.specs.declared.registry.Record.{Record}
 use Rattle.shared_marks.specs.declared.registry.Record.the-variants.{At, Nothing}
@@ -36,7 +36,7 @@ use Rattle.shared_marks.specs.declared.registry.Seen.{Seen}
 use Rattle.shared_marks.specs.declared.shared.Share.{Share}
 use Rattle.shared_marks.specs.declared.shared.Share.the-variants.{NoSlot as NotTaken, Refused as NotShared}
 use Rattle.shared_marks.specs.Registry.{record-of, empty-record, one-more}
-use Rattle.shared_marks.specs.Shared.{found-slot, no-record, no-room, share-tests, new-record, shares, register-reader-for-snapshot, share-answer, registry-in}
+use Rattle.shared_marks.specs.Shared.{no-record, no-room, share-tests, new-record, shares, register-reader-for-snapshot, share-answer, registry-in}
 use Rattle.shared_marks.specs.Inner.{item-at, seen-of, share-refusal, stale-by, no-record-answer, PlanCall}
 use Rattle.shared_marks.proofs.Refused.{Passed, passed}
 use Rattle.shared_marks.proofs.Stale.{none-stale, nothing-stored, some-true}

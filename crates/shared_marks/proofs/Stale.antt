@@ -20,7 +20,7 @@ use Rattle.bitmap.proofs.Bits.{set-same}
 use Rattle.readers.specs.declared.slots.Slot.the-variants.{Nothing}
 use Rattle.readers.specs.Slots.{is-fcntl, held, is-free, granted, empty-slot, empty-slots}
 use Rattle.readers.specs.Register.{available, lowest-slot, reclaimable}
-use Rattle.readers.specs.Floor.{some-slot}
+use Rattle.readers.specs.Register.{some-slot}
 use Rattle.readers.specs.Inner.{emptied-if}
 use Rattle.readers.proofs.Calls.{apply-append}
 use Rattle.readers.proofs.Lowest.{lowest-nothing}

@@ -12,8 +12,8 @@ use Rattle.wal_types.specs.Memory.{no-mark, slot-bit}
 use Rattle.wal_types.specs.Refusal.{_if_, lowest, settings, short-memory, not-held, other-owner, no-owner, unused-mark, no-such-mark}
 use Rattle.wal_types.specs.Call.{Call, Answer}
 use Rattle.readers.specs.Slots.{is-fcntl, shorter}
-use Rattle.readers.specs.Register.{lowest-slot}
-use Rattle.readers.specs.Floor.{some-slot}
+use Rattle.readers.specs.Register.{found-slot, lowest-slot}
+use Rattle.readers.specs.Register.{some-slot}
 use Rattle.readers.specs.Inner.{available-by}
 use Rattle.shared_marks.specs.declared.registry.Record.{Record}
 use Rattle.shared_marks.specs.declared.registry.Record.the-variants.{At, Nothing}
@@ -21,7 +21,7 @@ use Rattle.shared_marks.specs.declared.registry.Seen.{Seen}
 use Rattle.shared_marks.specs.declared.shared.Share.{Share}
 use Rattle.shared_marks.specs.declared.shared.Share.the-variants.{NoSlot as NotTaken, Refused as NotShared}
 use Rattle.shared_marks.specs.Registry.{is-empty, fits, record-of, empty-record}
-use Rattle.shared_marks.specs.Shared.{found-slot, SharedCall}
+use Rattle.shared_marks.specs.Shared.{SharedCall}
 
 -- what a scan has seen of the registry before its first record, and one record more: the first that fits is kept
 abbrev pub nothing-seen : Seen

@@ -14,7 +14,7 @@ use Rattle.wal_types.specs.Call.{Call, Answer, refused, slot-taken, none, ok, u
 use Rattle.readers.specs.declared.slots.Slot.{Slot}
 use Rattle.readers.specs.declared.slots.Slot.the-variants.{At as SlotAt, Nothing as NoSlot}
 use Rattle.readers.specs.Slots.{short-slots, bad-card, held, slots-in}
-use Rattle.readers.specs.Register.{chosen-slot, registers}
+use Rattle.readers.specs.Register.{found-slot, chosen-slot, registers}
 use Rattle.readers.specs.Update.{not-owner, releases-slot}
 use Rattle.shared_marks.specs.declared.registry.Record.{Record}
 use Rattle.shared_marks.specs.declared.registry.Record.the-variants.{At, Nothing}
@@ -25,10 +25,6 @@ use Rattle.shared_marks.specs.Registry.{record-of, empty-record, one-mor
 -- Refusal 2 of the calls on the registry.
 abbrev pub short-shared : ℕ → Memory → Process → Bool
 short-shared n m p = short-slots n m p || ltb (length (p .registry)) n
-
-abbrev pub found-slot : Slot → Bool
-found-slot (SlotAt i) = true
-found-slot NoSlot = false
 
 abbrev pub no-record : Record → Bool
 no-record (At i) = false

@@ -17,7 +17,7 @@ use wal_types::UNUSED_READER_FRAME;
 ghost use mathlib.Core.Path.{_≡_};
 ghost use Prim.Native.Nat.{_+_, _/_, _≤_};
 ghost use lib.ListN.{length};
-ghost use Rattle.readers.specs.Floor.{some-slot};
+ghost use Rattle.readers.specs.Register.{some-slot};
 ghost use Rattle.readers.specs.Update.{release-answer};
 ghost use Rattle.shared_marks.specs.Registry.{one-less};
 ghost use Rattle.shared_marks.specs.Shared.{register-reader-for-snapshot, register-db-file-reader, unregister-reader-for-snapshot, share-answer, SharedCall};
