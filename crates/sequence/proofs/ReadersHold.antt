@@ -38,10 +38,10 @@ module _ (s : Settings) (who : ℕ) (w : World) where
   OwnStep op = Step (s .slots) m p (after (perform s op) m p) (λ k c. holders-next who k (by who op) (answer-of s (by who op) w) c) (λ i x. EndsDirect s who i x (by who op) w)
 
   step-of : (op : Op) → OwnStep op
-  step-of (record-op page frame grow) = leaves-step _ m p _ _ (λ k c. refl) _ (record-leaves (s .capacity) (s .max-blocks) page frame grow m p)
-  step-of (rollback-op bound) = leaves-step _ m p _ _ (λ k c. refl) _ (rollback-leaves (s .capacity) (s .max-blocks) bound m p)
-  step-of (find-op page low high x) = leaves-step _ m p _ _ (λ k c. refl) _ (find-leaves (s .capacity) (s .max-blocks) page low high x m p)
-  step-of (list-op low high room-pages room-frames) = leaves-step _ m p _ _ (λ k c. refl) _ (list-leaves (s .capacity) (s .max-blocks) low high room-pages room-frames m p)
+  step-of (record-op page frame grow) = leaves-step _ m p _ _ (λ k c. refl) _ (record-leaves _ _ _ _ _ m p)
+  step-of (rollback-op bound) = leaves-step _ m p _ _ (λ k c. refl) _ (rollback-leaves _ _ _ m p)
+  step-of (find-op page low high x) = leaves-step _ m p _ _ (λ k c. refl) _ (find-leaves _ _ _ _ _ _ m p)
+  step-of (list-op low high room-pages room-frames) = leaves-step _ m p _ _ (λ k c. refl) _ (list-leaves _ _ _ _ _ _ m p)
   step-of (register-op owner mark bytes) = register-step (s .slots) (s .mode) owner mark bytes m p _ _ (λ k c. refl)
   step-of (share-op owner mark bytes) = share-step (s .slots) (s .mode) owner mark bytes m p who _
   step-of (move-op slot owner mark) = move-step (s .slots) slot owner mark m p who
@@ -50,10 +50,10 @@ module _ (s : Settings) (who : ℕ) (w : World) where
   step-of (floor-op bytes) = floor-step (s .slots) (s .mode) bytes m p _ _ (λ k c. refl)
   step-of (limit-op bytes) = limit-step (s .slots) (s .mode) bytes m p _ _ (λ k c. refl)
   step-of (db-reader-op bytes) = db-reader-step (s .slots) (s .mode) bytes m p _ _ (λ k c. refl)
-  step-of (acquire-op lock owner byte) = leaves-step _ m p _ _ (λ k c. refl) _ (acquire-leaves lock owner byte m p)
-  step-of (unlock-op lock owner) = leaves-step _ m p _ _ (λ k c. refl) _ (unlock-leaves lock (s .mode) owner m p)
-  step-of (commit-op frame c1 c2 count) = leaves-step _ m p _ _ (λ k c. refl) _ (commit-leaves frame c1 c2 count m p)
-  step-of (backfill-op n) = leaves-step _ m p _ _ (λ k c. refl) _ (backfill-leaves n m p)
+  step-of (acquire-op lock owner byte) = leaves-step _ m p _ _ (λ k c. refl) _ (acquire-leaves _ _ _ m p)
+  step-of (unlock-op lock owner) = leaves-step _ m p _ _ (λ k c. refl) _ (unlock-leaves _ _ _ m p)
+  step-of (commit-op frame c1 c2 count) = leaves-step _ m p _ _ (λ k c. refl) _ (commit-leaves _ _ _ _ m p)
+  step-of (backfill-op n) = leaves-step _ m p _ _ (λ k c. refl) _ (backfill-leaves _ m p)
   step-of seq-op = leaves-step _ m p _ _ (λ k c. refl) _ (seq-leaves m p)
   step-of epoch-op = leaves-step _ m p _ _ (λ k c. refl) _ (epoch-leaves m p)
 
