@@ -11,3 +11,5 @@ pub mod IndexAnswers
 pub mod ReadersFloor
 pub mod ReadersHold
 pub mod Demand3
+pub mod Trace
+pub mod Example

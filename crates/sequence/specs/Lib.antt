@@ -3,3 +3,4 @@ pub mod Sequence
 pub mod Book
 pub mod Hold
 pub mod Statement
+pub mod Example

@@ -1,0 +1,114 @@
+-- A sequence of calls by two processes, with what each call answers: demand 3's premises hold in it. Assumes nothing.
+use mathlib.Core.Path.{_≡_}
+use mathlib.Core.Bool.{false}
+use mathlib.Core.List.{List, [], _∷_, _++_}
+use Prim.Native.Nat.{ℕ}
+use lib.ListN.{replicate}
+use Rattle.wal_types.specs.declared.SharedWalOwnershipMode.the-variants.{LinuxOfd}
+use Rattle.wal_types.specs.Settings.{unused}
+use Rattle.wal_types.specs.Memory.{Memory, Process, no-mark}
+use Rattle.wal_types.specs.Fresh.{fresh-header}
+use Rattle.wal_types.specs.Call.{pair, Answer, refused, ok, value, stored, kept, frame-found, listed, slot-taken}
+use Rattle.frame_index.specs.declared.find.Watermark.the-variants.{NoWatermark}
+use Rattle.sequence.specs.Sequence.{Settings, Op, record-op, rollback-op, find-op, list-op, register-op, release-op, floor-op, limit-op, commit-op, World, Event, answer-of, next}
+use Rattle.sequence.specs.Hold.{direct}
+use Rattle.sequence.specs.Statement.{at-now, Premises}
+
+-- one block of entries, two reader slots
+abbrev pub small : Settings
+small = record { capacity = 4096; max-blocks = 1; slots = 2; mode = LinuxOfd }
+
+-- so many cells of 0
+unfoldable pub zeros : ℕ → List ℕ
+zeros n = replicate n 0
+
+-- fresh memory, the block in use; both slots are free: bits 0 and 1 of the word 3
+abbrev pub fresh-memory : Memory
+fresh-memory =
+    record {
+      header = fresh-header 1;
+      pages = zeros 4096;
+      frames = zeros 4096;
+      hash = zeros 8192;
+      bitmap = 3 ∷ [];
+      reader-frames = unused ∷ unused ∷ [];
+      reader-owners = 0 ∷ 0 ∷ [];
+    }
+
+abbrev pub fresh-process : Process
+fresh-process =
+    record { local-readers = 0 ∷ 0 ∷ []; local-writer = 0; local-checkpoint = 0; registry = no-mark ∷ no-mark ∷ [] }
+
+abbrev pub fresh-world : World
+fresh-world = record { memory = fresh-memory; processes = λ who. fresh-process }
+
+-- process 0 reads, process 1 writes
+abbrev pub reader : Op → Event
+reader op = record { who = 0; op = op }
+
+abbrev pub writer : Op → Event
+writer op = record { who = 1; op = op }
+
+-- Three frames are written and published;
+abbrev pub before : List Event
+before =
+    writer (record-op 7 1 false)
+    ∷ writer (record-op 8199 2 false)
+    ∷ writer (record-op 7 3 false)
+    ∷ writer (commit-op 3 0 0 1)
+    ∷ []
+
+-- the reader, with owner 10, takes a slot at mark 3, both locks granted;
+abbrev pub begin : Event
+begin = reader (register-op 10 3 (1 ∷ 1 ∷ []))
+
+-- the writer cannot release that slot; it writes three more frames, takes the last one back, and publishes.
+abbrev pub during : List Event
+during =
+    writer (release-op 0 10)
+    ∷ writer (record-op 9 4 false)
+    ∷ writer (record-op 7 5 false)
+    ∷ writer (record-op 8199 6 false)
+    ∷ writer (rollback-op 5)
+    ∷ writer (commit-op 5 0 0 2)
+    ∷ []
+
+-- what the calls of a list answer
+unfoldable pub answers : Settings → List Event → World → List Answer
+answers s [] w = []
+answers s (e ∷ rest) w = answer-of s e w ∷ answers s rest (next s e w)
+
+-- One more call: the premises of demand 3 hold for it, with the direct hold of slot 0 at mark 3; and what it answers.
+abbrev pub Held : Event → Type 0
+Held now = Premises small 1 fresh-world before begin during now direct 0 3
+
+abbrev pub answered : Event → Answer
+answered now = answer-of small now (at-now small 1 fresh-world before begin during now direct 0 3)
+
+-- a lookup of page 7 and a list, both up to 3, by the reader; a floor and a copy-back limit by the writer, slot 0 busy
+abbrev pub lookup : Event
+lookup = reader (find-op 7 1 3 NoWatermark)
+
+abbrev pub listing : Event
+listing = reader (list-op 1 3 8 8)
+
+abbrev pub floor : Event
+floor = writer (floor-op (0 ∷ 1 ∷ []))
+
+abbrev pub limit : Event
+limit = writer (limit-op (0 ∷ 1 ∷ []))
+
+-- The answers are those of the book of three pairs, though page 7's newest frame is 5 and 5 is published.
+pub record Example : Type 0 where
+  pub calls-answer :
+      answers small (before ++ (begin ∷ during)) fresh-world
+      ≡ stored ∷ stored ∷ stored ∷ ok ∷ slot-taken 0 10 3 ∷ refused 7 ∷ stored ∷ stored ∷ stored ∷ kept 5 ∷ ok ∷ []
+  pub newest-is-5 : answered (reader (find-op 7 1 5 NoWatermark)) ≡ frame-found 5
+  pub lookup-held : Held lookup
+  pub lookup-gives : answered lookup ≡ frame-found 3
+  pub list-held : Held listing
+  pub list-gives : answered listing ≡ listed (pair 7 3 ∷ pair 8199 2 ∷ [])
+  pub floor-held : Held floor
+  pub floor-gives : answered floor ≡ frame-found 3
+  pub limit-held : Held limit
+  pub limit-gives : answered limit ≡ value 3
