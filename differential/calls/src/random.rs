@@ -16,6 +16,7 @@ use std::time::{Duration, Instant};
 pub struct Tally {
     pub calls: u64,
     pub on_index: u64,
+    pub on_readers: u64,
     pub refused: u64,
 }
 
@@ -45,12 +46,12 @@ pub fn run(sides: Sides, wanted: &Wanted, mut each: impl FnMut(&[Line])) -> Resu
     let Wanted { seed, sequences, .. } = *wanted;
     let mut families = Family::offered(&sides);
     families.retain(|family| wanted.families.is_empty() || wanted.families.contains(family));
-    let mut tally = Tally { calls: 0, on_index: 0, refused: 0 };
+    let mut tally = Tally { calls: 0, on_index: 0, on_readers: 0, refused: 0 };
     if families.is_empty() {
         return Ok(tally);
     }
     for sequence in 0..sequences {
-        let mut maker = Maker { dice: Dice::new(seed, sequence), families: &families, family: Family::Header };
+        let mut maker = Maker::new(Dice::new(seed, sequence), &families);
         let mut session = Session::new(sides);
         let mut script = Vec::new();
         for line in maker.opening() {
@@ -63,6 +64,7 @@ pub fn run(sides: Sides, wanted: &Wanted, mut each: impl FnMut(&[Line])) -> Resu
         each(&script);
         tally.calls += session.calls;
         tally.on_index += session.on_index;
+        tally.on_readers += session.on_readers;
         tally.refused += session.refused;
     }
     Ok(tally)
@@ -158,32 +160,34 @@ impl Family {
 struct Maker<'a> {
     dice: Dice,
     families: &'a [Family],
-    /// The family that most lines are of.
+    /// The family that the opening is of, and most lines.
     family: Family,
+    /// Whether each line is of any family.
+    mixed: bool,
 }
 
-impl Maker<'_> {
-    /// `new`, and often an index that is filled already.
+impl<'a> Maker<'a> {
+    fn new(mut dice: Dice, families: &'a [Family]) -> Self {
+        let (family, mixed) = (dice.of(families), dice.one_in(3));
+        Self { dice, families, family, mixed }
+    }
+
+    /// `new`, and often an index that is filled already, or slots that are taken.
     fn opening(&mut self) -> Vec<Line> {
-        self.family = self.dice.of(self.families);
         let mode = self.dice.of(&[LINUX_OFD, PROCESS_SCOPED_FCNTL]);
-        let processes = self.dice.of(&[1, 1, 2, 3]);
-        let (mut capacity, mut max_blocks, mut slots) = (self.dice.of(&[1, 8, 4096, 65_536]), 1, 1);
-        match self.family {
-            Family::Header => slots = self.dice.between(1, 4) as u32,
-            Family::Index => {
-                max_blocks = self.dice.of(&[1, 1, 1, 1, 2, 2, 2, 3, 3, 4, 4]);
-                if self.dice.one_in(8) {
-                    max_blocks = self.dice.between(1, 16) as u32;
-                }
-                capacity = match max_blocks {
-                    2.. if !self.dice.one_in(3) => self.dice.of(&[65_536, 65_535, max_blocks * 4096]),
-                    _ => self.dice.of(&[1, 2, 3, 17, 4095, 4096, 4097, 8191, 8192, 8193, 12_289, 65_535, 65_536]),
-                };
+        let processes = self.dice.of(&[1, 1, 2, 2, 3, 4]);
+        let on_readers = matches!(self.family, Family::Readers | Family::Shared);
+        let slots = if on_readers || self.dice.one_in(2) { self.slot_count() } else { self.dice.between(1, 4) as u32 };
+        let (mut capacity, mut max_blocks) = (self.dice.of(&[1, 8, 4096, 65_536]), 1);
+        if self.family == Family::Index {
+            max_blocks = self.dice.of(&[1, 1, 1, 1, 2, 2, 2, 3, 3, 4, 4]);
+            if self.dice.one_in(8) {
+                max_blocks = self.dice.between(1, 16) as u32;
             }
-            Family::Readers | Family::Shared => {
-                slots = self.dice.of(&[1, 2, 3, 3, 4, 5, 8, 63, 64, 65, 127, 128, 129, 150, 161, 192, 255, 256]);
-            }
+            capacity = match max_blocks {
+                2.. if !self.dice.one_in(3) => self.dice.of(&[65_536, 65_535, max_blocks * 4096]),
+                _ => self.dice.of(&[1, 2, 3, 17, 4095, 4096, 4097, 8191, 8192, 8193, 12_289, 65_535, 65_536]),
+            };
         }
         let start_blocks = self.dice.between(0, max_blocks.into()) as u32;
         let settings = Settings { capacity, max_blocks, slots, mode };
@@ -195,7 +199,15 @@ impl Maker<'_> {
                 _ => {}
             }
         }
+        if on_readers && self.dice.one_in(4) {
+            self.occupying(&settings, processes, &mut lines);
+        }
         lines
+    }
+
+    /// Slots around each number of bitmap words; from 129 to 161 the Rust's blocks are moved.
+    fn slot_count(&mut self) -> u32 {
+        self.dice.of(&[1, 2, 2, 3, 3, 4, 5, 8, 63, 64, 65, 127, 128, 129, 150, 161, 162, 192, 255, 256])
     }
 
     fn line(&mut self, session: &Session) -> Line {
@@ -213,7 +225,8 @@ impl Maker<'_> {
         if self.dice.one_in(40) {
             return self.settings_or_loan(fitting);
         }
-        let family = if self.dice.one_in(8) { self.dice.of(self.families) } else { self.family };
+        let any = self.mixed || self.dice.one_in(8);
+        let family = if any { self.dice.of(self.families) } else { self.family };
         match family {
             Family::Header => self.header_line(view),
             Family::Index => self.index_line(view, settings),

@@ -25,13 +25,10 @@ pub fn refusal(asked: &Asked, pairs: impl FnOnce(u64, u64) -> u64) -> Option<u32
         Call::RegisterReader { owner, mark, ref card } => {
             asked.readers(&SLOTS_AND_OWN).or_else(|| asked.offer(owner, mark)).or_else(|| asked.card(card))
         }
-        Call::RegisterReaderForSnapshot { owner, mark, ref card } => asked
-            .readers(&SLOTS_OWN_AND_REGISTRY)
-            .or_else(|| asked.offer(owner, mark))
-            .or_else(|| asked.new_holder(mark, card))
-            .or_else(|| asked.card(card)),
+        Call::RegisterReaderForSnapshot { owner, mark, ref card } => asked.shared_register(owner, mark, card),
+        Call::RegisterDbFileReader { owner, ref card } => asked.shared_register(owner, 0, card),
         Call::UpdateReader { slot, owner, mark } => asked
-            .readers(&[Part::SlotFrames, Part::SlotOwners, Part::Registry])
+            .slots_given(&[Part::SlotFrames, Part::SlotOwners, Part::Registry])
             .or_else(|| asked.slot_number(slot))
             .or_else(|| (asked.memory.slots().owners[slot as usize] != owner).then_some(8))
             .or_else(|| asked.offer(owner, mark))
@@ -48,6 +45,9 @@ pub fn refusal(asked: &Asked, pairs: impl FnOnce(u64, u64) -> u64) -> Option<u32
             .or_else(|| asked.shared_release(mark, slot, owner)),
         Call::MinActiveReaderFrame { ref card } | Call::CopyBackLimit { ref card } => {
             asked.readers(&SLOTS_AND_OWN).or_else(|| asked.card(card)).or_else(|| asked.probe(card))
+        }
+        Call::HasActiveDbFileReader { ref card } => {
+            asked.readers(&SLOTS_AND_OWN).or_else(|| asked.card(card)).or_else(|| asked.probe_for_mark_0(card))
         }
         Call::TryAcquireWriter { owner, byte } | Call::TryAcquireCheckpoint { owner, byte } => {
             no_owner(owner).or_else(|| (byte > 2).then_some(14))
@@ -154,9 +154,17 @@ impl Asked<'_> {
         hash_full.then_some(4)
     }
 
-    /// 1 and 2 of a call on the readers that uses these parts.
+    /// 1 and 2 of a call on the readers that takes the mode and uses these parts.
     fn readers(&self, parts: &[Part]) -> Option<u32> {
-        if !self.settings.good_slots() || !self.settings.good_mode() {
+        if !self.settings.good_mode() {
+            return Some(1);
+        }
+        self.slots_given(parts)
+    }
+
+    /// 1 and 2 of a call on the readers that does not take the mode.
+    fn slots_given(&self, parts: &[Part]) -> Option<u32> {
+        if !self.settings.good_slots() {
             return Some(1);
         }
         let needed = |part: &Part| match part {
@@ -164,6 +172,13 @@ impl Asked<'_> {
             _ => self.slots(),
         };
         parts.iter().any(|part| self.lent(*part) < needed(part)).then_some(2)
+    }
+
+    fn shared_register(&self, owner: u64, mark: u64, card: &[u8]) -> Option<u32> {
+        self.readers(&SLOTS_OWN_AND_REGISTRY)
+            .or_else(|| self.offer(owner, mark))
+            .or_else(|| self.new_holder(mark, card))
+            .or_else(|| self.card(card))
     }
 
     fn slot_number(&self, slot: u32) -> Option<u32> {
@@ -226,9 +241,20 @@ impl Asked<'_> {
 
     /// 15.
     fn probe(&self, card: &[u8]) -> Option<u32> {
-        let unknown =
-            |i: usize| self.memory.slots().frames[i] != UNUSED && self.own().local_owners[i] == 0 && card[i] == 2;
-        (self.settings.mode == LINUX_OFD && (0..self.slots()).any(unknown)).then_some(15)
+        (0..self.slots()).any(|i| self.unknown(card, i)).then_some(15)
+    }
+
+    /// 15 of a search that ends at the first live slot with mark 0.
+    fn probe_for_mark_0(&self, card: &[u8]) -> Option<u32> {
+        let live = |i: usize| self.own().local_owners[i] != 0 || card[i] != 1;
+        let ends = |i: &usize| self.unknown(card, *i) || self.memory.slots().frames[*i] == 0 && live(*i);
+        (0..self.slots()).find(ends).and_then(|i| self.unknown(card, i).then_some(15))
+    }
+
+    /// In LinuxOfd an error at a slot neither held nor skipped.
+    fn unknown(&self, card: &[u8], i: usize) -> bool {
+        let used = self.memory.slots().frames[i] != UNUSED && self.own().local_owners[i] == 0;
+        self.settings.mode == LINUX_OFD && used && card[i] == 2
     }
 
     /// 1, 7, 8 and 9 of a lock.
@@ -294,6 +320,10 @@ mod tests {
             ("floor 1 2", Some(14)),
             ("floor 1 02", Some(15)),
             ("floor 0 22", None),
+            ("dbreader 1 02", Some(15)),
+            ("dbreader 0 22", None),
+            ("regdb 1 0 9", Some(9)),
+            ("regdb 1 1 9", Some(14)),
             ("acqw 0 0 3", Some(9)),
             ("relc 0 0", Some(7)),
             ("list 0 1 1 2", Some(5)),

@@ -16,10 +16,12 @@ pub enum Call {
     IterLatestFrames { min: u64, max: u64, room: u64 },
     RegisterReader { owner: u64, mark: u64, card: Card },
     RegisterReaderForSnapshot { owner: u64, mark: u64, card: Card },
+    RegisterDbFileReader { owner: u64, card: Card },
     UpdateReader { slot: u32, owner: u64, mark: u64 },
     UnregisterReader { slot: u32, owner: u64 },
     UnregisterReaderForSnapshot { mark: u64, slot: u32, owner: u64 },
     MinActiveReaderFrame { card: Card },
+    HasActiveDbFileReader { card: Card },
     CopyBackLimit { card: Card },
     TryAcquireWriter { owner: u64, byte: u8 },
     TryAcquireCheckpoint { owner: u64, byte: u8 },
@@ -48,6 +50,8 @@ pub enum Answer {
         mark: u64,
     },
     Limit(u64),
+    /// Whether a reader reads only the database file.
+    Active(bool),
     Acquired(bool),
     Done,
     Seq(u32),
@@ -310,6 +314,22 @@ impl Call {
         )
     }
 
+    /// Slots, shared marks, floor and copy-back limit.
+    pub fn is_on_readers(&self) -> bool {
+        matches!(
+            self,
+            Self::RegisterReader { .. }
+                | Self::RegisterReaderForSnapshot { .. }
+                | Self::RegisterDbFileReader { .. }
+                | Self::UpdateReader { .. }
+                | Self::UnregisterReader { .. }
+                | Self::UnregisterReaderForSnapshot { .. }
+                | Self::MinActiveReaderFrame { .. }
+                | Self::HasActiveDbFileReader { .. }
+                | Self::CopyBackLimit { .. }
+        )
+    }
+
     fn known(word: &str, w: &mut Words) -> Option<Self> {
         Some(match word {
             "record" => Self::RecordFrame { page: w.number()?, frame: w.number()?, grow: w.zero_or_one()? },
@@ -323,10 +343,12 @@ impl Call {
             "list" => Self::IterLatestFrames { min: w.number()?, max: w.number()?, room: w.number()? },
             "reg" => Self::RegisterReader { owner: w.number()?, mark: w.number()?, card: w.card()? },
             "regs" => Self::RegisterReaderForSnapshot { owner: w.number()?, mark: w.number()?, card: w.card()? },
+            "regdb" => Self::RegisterDbFileReader { owner: w.number()?, card: w.card()? },
             "upd" => Self::UpdateReader { slot: w.number()?, owner: w.number()?, mark: w.number()? },
             "rel" => Self::UnregisterReader { slot: w.number()?, owner: w.number()? },
             "rels" => Self::UnregisterReaderForSnapshot { mark: w.number()?, slot: w.number()?, owner: w.number()? },
             "floor" => Self::MinActiveReaderFrame { card: w.card()? },
+            "dbreader" => Self::HasActiveDbFileReader { card: w.card()? },
             "limit" => Self::CopyBackLimit { card: w.card()? },
             "acqw" => Self::TryAcquireWriter { owner: w.number()?, byte: w.number()? },
             "acqc" => Self::TryAcquireCheckpoint { owner: w.number()?, byte: w.number()? },
@@ -360,10 +382,12 @@ impl Call {
             Self::RegisterReaderForSnapshot { owner, mark, card } => {
                 write!(f, "regs {p} {owner} {mark} {}", row(card))
             }
+            Self::RegisterDbFileReader { owner, card } => write!(f, "regdb {p} {owner} {}", row(card)),
             Self::UpdateReader { slot, owner, mark } => write!(f, "upd {p} {slot} {owner} {mark}"),
             Self::UnregisterReader { slot, owner } => write!(f, "rel {p} {slot} {owner}"),
             Self::UnregisterReaderForSnapshot { mark, slot, owner } => write!(f, "rels {p} {mark} {slot} {owner}"),
             Self::MinActiveReaderFrame { card } => write!(f, "floor {p} {}", row(card)),
+            Self::HasActiveDbFileReader { card } => write!(f, "dbreader {p} {}", row(card)),
             Self::CopyBackLimit { card } => write!(f, "limit {p} {}", row(card)),
             Self::TryAcquireWriter { owner, byte } => write!(f, "acqw {p} {owner} {byte}"),
             Self::TryAcquireCheckpoint { owner, byte } => write!(f, "acqc {p} {owner} {byte}"),
@@ -447,7 +471,7 @@ impl fmt::Display for Answer {
             }
             Self::Slot { slot, owner, mark } => write!(f, "slot {slot} {owner} {mark}"),
             Self::Limit(limit) => write!(f, "limit {limit}"),
-            Self::Acquired(got) => write!(f, "{}", u8::from(*got)),
+            Self::Active(yes) | Self::Acquired(yes) => write!(f, "{}", u8::from(*yes)),
             Self::Done => f.write_str("ok"),
             Self::Seq(number) => write!(f, "seq {number}"),
             Self::Epoch(number) => write!(f, "epoch {number}"),
@@ -466,7 +490,7 @@ mod tests {
     #[test]
     fn known_lines_are_written_as_read() {
         let script = "new 4096 1 1 65 F 2\nrecord 0 7 1 0\nrollback 1 18446744073709551615\nfind 0 7 1 2 -\nfind 0 7 1 2 9\n\
-                      list 0 1 9 10\nreg 0 5 3 0129\nregs 0 5 3 -\nupd 0 4294967295 5 3\nrel 0 1 5\nrels 0 3 1 5\nfloor 0 1\n\
+                      list 0 1 9 10\nreg 0 5 3 0129\nregs 0 5 3 -\nregdb 0 5 01\nupd 0 4294967295 5 3\nrel 0 1 5\nrels 0 3 1 5\nfloor 0 1\ndbreader 1 2\n\
                       limit 0 -\nacqw 0 5 255\nacqc 1 5 0\nrelw 0 5\nrelc 0 5\ncommit 0 9 4294967295 0 1\nbackfill 0 3\n\
                       seq 0\nepoch 1\nowner 0 1 2\nparts 0 4294967298\npoke hash 8191 65535\npoke maxframe 0 5\npoke cowner 0 1\nown 0 lowner 3 4\n\
                       own 1 lwriter 0 4\nown 1 lckpt 0 4\nregistry 0 1 2 3 4 5\nlend sframes 3\nlend registry -\n\

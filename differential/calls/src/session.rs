@@ -85,12 +85,14 @@ pub struct Session<'a> {
     pub calls: u64,
     /// Of these, the ones on the index.
     pub on_index: u64,
+    /// And those on readers.
+    pub on_readers: u64,
     pub refused: u64,
 }
 
 impl<'a> Session<'a> {
     pub fn new(sides: Sides<'a>) -> Self {
-        Self { sides, world: None, compares_cells: true, calls: 0, on_index: 0, refused: 0 }
+        Self { sides, world: None, compares_cells: true, calls: 0, on_index: 0, on_readers: 0, refused: 0 }
     }
 
     /// The memory as it stands, of the port if it takes part; `None` before the first `new`.
@@ -134,6 +136,7 @@ impl<'a> Session<'a> {
                 if let Reply::Answer(answer) = &reply {
                     self.calls += 1;
                     self.on_index += u64::from(call.is_on_index());
+                    self.on_readers += u64::from(call.is_on_readers());
                     self.refused += u64::from(matches!(answer, Answer::Refused(_)));
                 }
                 return Ok(reply);

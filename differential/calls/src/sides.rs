@@ -82,6 +82,9 @@ pub trait Port {
     fn register_reader_for_snapshot(&self, g: Given, owner: u64, mark: u64, card: &Card) -> Option<Answer> {
         None
     }
+    fn register_db_file_reader(&self, g: Given, owner: u64, card: &Card) -> Option<Answer> {
+        None
+    }
     fn update_reader(&self, g: Given, slot: u32, owner: u64, mark: u64) -> Option<Answer> {
         None
     }
@@ -92,6 +95,9 @@ pub trait Port {
         None
     }
     fn min_active_reader_frame(&self, g: Given, card: &Card) -> Option<Answer> {
+        None
+    }
+    fn has_active_db_file_reader(&self, g: Given, card: &Card) -> Option<Answer> {
         None
     }
     fn copy_back_limit(&self, g: Given, card: &Card) -> Option<Answer> {
@@ -145,12 +151,14 @@ pub trait Port {
             Call::RegisterReaderForSnapshot { owner, mark, ref card } => {
                 self.register_reader_for_snapshot(g, owner, mark, card)
             }
+            Call::RegisterDbFileReader { owner, ref card } => self.register_db_file_reader(g, owner, card),
             Call::UpdateReader { slot, owner, mark } => self.update_reader(g, slot, owner, mark),
             Call::UnregisterReader { slot, owner } => self.unregister_reader(g, slot, owner),
             Call::UnregisterReaderForSnapshot { mark, slot, owner } => {
                 self.unregister_reader_for_snapshot(g, mark, slot, owner)
             }
             Call::MinActiveReaderFrame { ref card } => self.min_active_reader_frame(g, card),
+            Call::HasActiveDbFileReader { ref card } => self.has_active_db_file_reader(g, card),
             Call::CopyBackLimit { ref card } => self.copy_back_limit(g, card),
             Call::TryAcquireWriter { owner, byte } => self.try_acquire_writer(g, owner, byte),
             Call::TryAcquireCheckpoint { owner, byte } => self.try_acquire_checkpoint(g, owner, byte),

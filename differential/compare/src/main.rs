@@ -91,9 +91,9 @@ fn wanted(words: &[&str]) -> Option<Wanted> {
 fn random_scripts(sides: Sides, words: &[&str]) -> ExitCode {
     let Some(wanted) = wanted(&words[1..]) else { return fault(USAGE) };
     match random::run(sides, &wanted, |_| ()) {
-        Ok(Tally { calls, on_index, refused }) => {
+        Ok(Tally { calls, on_index, on_readers, refused }) => {
             let Wanted { seed, sequences, .. } = wanted;
-            let calls = format!("{calls} calls ({on_index} on the index)");
+            let calls = format!("{calls} calls ({on_index} on the index, {on_readers} on readers)");
             println!("random: {seed}, {sequences} sequences, {calls}, {refused} refused, no difference");
             ExitCode::SUCCESS
         }

@@ -237,6 +237,10 @@ impl Process {
         self.0.register_reader_for_snapshot(SharedOwnerRecord(owner), mark).map(answered)
     }
 
+    pub(crate) fn register_db_file_reader(&self, owner: u64) -> Option<(u32, u64, u64)> {
+        self.0.register_db_file_reader(SharedOwnerRecord(owner)).map(answered)
+    }
+
     pub(crate) fn update_reader(&self, slot: u32, owner: u64, mark: u64) -> (u32, u64, u64) {
         // The mark that the caller had is not looked at.
         answered(self.0.update_reader(given(slot, owner, 0), mark))
@@ -252,6 +256,10 @@ impl Process {
 
     pub(crate) fn min_active_reader_frame(&self) -> Option<u64> {
         self.0.min_active_reader_frame()
+    }
+
+    pub(crate) fn has_active_db_file_reader(&self) -> bool {
+        self.0.has_active_db_file_reader()
     }
 
     pub(crate) fn try_acquire_writer(&self, owner: u64) -> bool {

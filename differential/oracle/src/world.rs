@@ -113,7 +113,9 @@ impl World {
         match call {
             Call::RegisterReader { card, .. }
             | Call::RegisterReaderForSnapshot { card, .. }
+            | Call::RegisterDbFileReader { card, .. }
             | Call::MinActiveReaderFrame { card }
+            | Call::HasActiveDbFileReader { card }
             | Call::CopyBackLimit { card } => self.file.set_card(card),
             Call::TryAcquireWriter { byte, .. } | Call::TryAcquireCheckpoint { byte, .. } => self.file.set_lock(*byte),
             Call::RecordFrame { grow, .. } => self.file.set_grow(*grow),
@@ -144,6 +146,9 @@ impl World {
             Call::RegisterReaderForSnapshot { owner, mark, .. } => {
                 rust.register_reader_for_snapshot(owner, mark).map_or(Answer::Nothing, slot)
             }
+            Call::RegisterDbFileReader { owner, .. } => {
+                rust.register_db_file_reader(owner).map_or(Answer::Nothing, slot)
+            }
             Call::UpdateReader { slot: index, owner, mark } => slot(rust.update_reader(index, owner, mark)),
             Call::UnregisterReader { slot, owner } => {
                 rust.unregister_reader(slot, owner);
@@ -154,6 +159,7 @@ impl World {
                 Answer::Done
             }
             Call::MinActiveReaderFrame { .. } => frame_or_nothing(rust.min_active_reader_frame()),
+            Call::HasActiveDbFileReader { .. } => Answer::Active(rust.has_active_db_file_reader()),
             // The port's own call: document 01 gives it from the floor.
             Call::CopyBackLimit { .. } => {
                 let published = before.max_frame;

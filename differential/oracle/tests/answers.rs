@@ -176,6 +176,38 @@ fn shared_marks() {
 }
 
 #[test]
+fn database_file_readers() {
+    check(
+        "new 1 1 1 3 O 2
+         dbreader 0 000 => 0
+         regdb 0 7 111 => slot 0 7 0
+         regdb 0 8 000 => slot 0 7 0
+         dbreader 0 111 => 1
+         dbreader 1 000 => 1
+         floor 1 000 => none
+         regs 1 8 5 010 => slot 1 8 5
+         dbreader 0 121 => 1
+         dbreader 1 211 => refused 15
+         dbreader 1 111 => 0
+         rels 0 0 0 7 => ok
+         rels 0 0 0 7 => refused 8
+         regdb 1 0 111 => refused 9
+         regdb 1 1 11 => refused 14
+         settings 1 1 3 2
+         regdb 1 1 111 => refused 1
+         dbreader 1 111 => refused 1
+         upd 1 1 8 6 => refused 11
+         upd 0 1 8 6 => slot 1 8 6
+         new 1 1 1 1 F 1
+         poke sframe 0 0
+         dbreader 0 0 => 0
+         poke sowner 0 7
+         dbreader 0 2 => 1
+         dbreader 0 1 => 0",
+    );
+}
+
+#[test]
 fn locks_and_counters() {
     check(
         "new 1 1 1 1 O 2

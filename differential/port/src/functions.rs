@@ -1,6 +1,6 @@
 //! The C functions of the port's static library.
 
-use calls::memory::Header;
+use calls::memory::{Header, Record};
 
 #[repr(C)]
 pub struct Bumped {
@@ -115,4 +115,177 @@ extern "C" {
         out_frames: *mut u64,
         out_frames_len: usize,
     ) -> ListReply;
+}
+
+// The calls on reader slots and shared marks.
+
+/// The answer of a registration or a move.
+#[repr(C)]
+pub struct ReaderReply {
+    pub refusal: u32,
+    pub taken: u32,
+    pub slot: u64,
+    pub owner: u64,
+    pub mark: u64,
+}
+
+#[repr(C)]
+pub struct FloorReply {
+    pub refusal: u32,
+    pub found: u32,
+    pub mark: u64,
+}
+
+#[repr(C)]
+pub struct DbFileReply {
+    pub refusal: u32,
+    pub active: u32,
+}
+
+#[repr(C)]
+pub struct LimitReply {
+    pub refusal: u32,
+    pub limit: u64,
+}
+
+extern "C" {
+    pub fn wal_register_reader(
+        n: usize,
+        mode: u32,
+        bitmap: *mut u64,
+        bitmap_len: usize,
+        reader_frames: *mut u64,
+        reader_frames_len: usize,
+        reader_owners: *mut u64,
+        reader_owners_len: usize,
+        local_readers: *mut u64,
+        local_readers_len: usize,
+        card: *const u8,
+        card_len: usize,
+        owner: u64,
+        mark: u64,
+    ) -> ReaderReply;
+    pub fn wal_update_reader(
+        n: usize,
+        reader_frames: *mut u64,
+        reader_frames_len: usize,
+        reader_owners: *const u64,
+        reader_owners_len: usize,
+        registry: *const Record,
+        registry_len: usize,
+        slot: usize,
+        owner: u64,
+        mark: u64,
+    ) -> ReaderReply;
+    pub fn wal_unregister_reader(
+        n: usize,
+        mode: u32,
+        bitmap: *mut u64,
+        bitmap_len: usize,
+        reader_frames: *mut u64,
+        reader_frames_len: usize,
+        reader_owners: *mut u64,
+        reader_owners_len: usize,
+        local_readers: *mut u64,
+        local_readers_len: usize,
+        registry: *const Record,
+        registry_len: usize,
+        slot: usize,
+        owner: u64,
+    ) -> u32;
+    pub fn wal_register_reader_for_snapshot(
+        n: usize,
+        mode: u32,
+        bitmap: *mut u64,
+        bitmap_len: usize,
+        reader_frames: *mut u64,
+        reader_frames_len: usize,
+        reader_owners: *mut u64,
+        reader_owners_len: usize,
+        local_readers: *mut u64,
+        local_readers_len: usize,
+        registry: *mut Record,
+        registry_len: usize,
+        card: *const u8,
+        card_len: usize,
+        owner: u64,
+        mark: u64,
+    ) -> ReaderReply;
+    pub fn wal_register_db_file_reader(
+        n: usize,
+        mode: u32,
+        bitmap: *mut u64,
+        bitmap_len: usize,
+        reader_frames: *mut u64,
+        reader_frames_len: usize,
+        reader_owners: *mut u64,
+        reader_owners_len: usize,
+        local_readers: *mut u64,
+        local_readers_len: usize,
+        registry: *mut Record,
+        registry_len: usize,
+        card: *const u8,
+        card_len: usize,
+        owner: u64,
+    ) -> ReaderReply;
+    pub fn wal_unregister_reader_for_snapshot(
+        n: usize,
+        mode: u32,
+        bitmap: *mut u64,
+        bitmap_len: usize,
+        reader_frames: *mut u64,
+        reader_frames_len: usize,
+        reader_owners: *mut u64,
+        reader_owners_len: usize,
+        local_readers: *mut u64,
+        local_readers_len: usize,
+        registry: *mut Record,
+        registry_len: usize,
+        mark: u64,
+        slot: usize,
+        owner: u64,
+    ) -> u32;
+    pub fn wal_min_active_reader_frame(
+        n: usize,
+        mode: u32,
+        bitmap: *mut u64,
+        bitmap_len: usize,
+        reader_frames: *mut u64,
+        reader_frames_len: usize,
+        reader_owners: *mut u64,
+        reader_owners_len: usize,
+        local_readers: *const u64,
+        local_readers_len: usize,
+        card: *const u8,
+        card_len: usize,
+    ) -> FloorReply;
+    pub fn wal_has_active_db_file_reader(
+        n: usize,
+        mode: u32,
+        bitmap: *mut u64,
+        bitmap_len: usize,
+        reader_frames: *mut u64,
+        reader_frames_len: usize,
+        reader_owners: *mut u64,
+        reader_owners_len: usize,
+        local_readers: *const u64,
+        local_readers_len: usize,
+        card: *const u8,
+        card_len: usize,
+    ) -> DbFileReply;
+    pub fn wal_copy_back_limit(
+        n: usize,
+        mode: u32,
+        max_frame: u64,
+        bitmap: *mut u64,
+        bitmap_len: usize,
+        reader_frames: *mut u64,
+        reader_frames_len: usize,
+        reader_owners: *mut u64,
+        reader_owners_len: usize,
+        local_readers: *const u64,
+        local_readers_len: usize,
+        card: *const u8,
+        card_len: usize,
+    ) -> LimitReply;
 }

@@ -2,10 +2,12 @@
 
 pub mod functions;
 pub mod list;
+pub mod readers;
 
-use calls::script::Answer;
+use calls::script::{Answer, Card};
 use calls::sides::{Given, Parts, Port};
 use functions::*;
+use readers::Lent;
 
 /// The answer that a reply gives, if the interface allows it.
 fn answer(refusal: u32, answer: u32, accepted: impl FnOnce(u32) -> Option<Answer>) -> Answer {
@@ -183,5 +185,41 @@ impl Port for Library {
         let reply = unsafe { wal_release_checkpoint(g.settings.mode, g.memory.header, *cell, owner) };
         (g.memory.header, *cell) = (reply.header, reply.local_owner);
         Some(answer(reply.refusal, reply.answer, released))
+    }
+
+    fn register_reader(&self, g: Given, owner: u64, mark: u64, card: &Card) -> Option<Answer> {
+        Some(Lent::new(g).register(owner, mark, card).answer())
+    }
+
+    fn register_reader_for_snapshot(&self, g: Given, owner: u64, mark: u64, card: &Card) -> Option<Answer> {
+        Some(Lent::new(g).register_shared(owner, mark, card).answer())
+    }
+
+    fn register_db_file_reader(&self, g: Given, owner: u64, card: &Card) -> Option<Answer> {
+        Some(Lent::new(g).register_db_file(owner, card).answer())
+    }
+
+    fn update_reader(&self, g: Given, slot: u32, owner: u64, mark: u64) -> Option<Answer> {
+        Some(Lent::new(g).update(slot, owner, mark).answer())
+    }
+
+    fn unregister_reader(&self, g: Given, slot: u32, owner: u64) -> Option<Answer> {
+        Some(readers::released(Lent::new(g).unregister(slot, owner)))
+    }
+
+    fn unregister_reader_for_snapshot(&self, g: Given, mark: u64, slot: u32, owner: u64) -> Option<Answer> {
+        Some(readers::released(Lent::new(g).unregister_shared(mark, slot, owner)))
+    }
+
+    fn min_active_reader_frame(&self, g: Given, card: &Card) -> Option<Answer> {
+        Some(Lent::new(g).floor(card).answer())
+    }
+
+    fn has_active_db_file_reader(&self, g: Given, card: &Card) -> Option<Answer> {
+        Some(Lent::new(g).has_db_file_reader(card).answer())
+    }
+
+    fn copy_back_limit(&self, g: Given, card: &Card) -> Option<Answer> {
+        Some(Lent::new(g).limit(card).answer())
     }
 }

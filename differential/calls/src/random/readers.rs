@@ -5,6 +5,31 @@ use crate::memory::{Own, OwnCell, Record, Settings, SharedCell, View, UNUSED};
 use crate::script::{Call, Card, Line};
 
 impl Maker<'_> {
+    /// Slots that are mostly taken, here or by a process that may be gone.
+    pub(super) fn occupying(&mut self, settings: &Settings, processes: usize, lines: &mut Vec<Line>) {
+        let slots = u64::from(settings.slots);
+        for index in 0..slots.div_ceil(64) {
+            let value = match self.dice.below(4) {
+                0 => self.dice.roll() & self.dice.roll(),
+                1 => 1 << self.dice.below(64),
+                _ => 0,
+            };
+            lines.push(Line::Poke { cell: SharedCell::Bitmap, index, value });
+        }
+        for index in 0..slots {
+            if self.dice.one_in(8) {
+                continue;
+            }
+            let (mark, owner) = (self.mark(), self.owner());
+            lines.push(Line::Poke { cell: SharedCell::SlotFrame, index, value: mark });
+            lines.push(Line::Poke { cell: SharedCell::SlotOwner, index, value: owner });
+            if self.dice.one_in(4) {
+                let process = self.dice.index(processes);
+                lines.push(Line::Own { process, cell: OwnCell::LocalOwner, index, value: owner });
+            }
+        }
+    }
+
     /// Lock answers: true to who holds what, all granted, mixed, or bad.
     fn card(&mut self, view: &dyn View, settings: &Settings, process: usize) -> Card {
         let slots = settings.slots.min(300) as usize;
@@ -67,7 +92,7 @@ impl Maker<'_> {
 
     pub(super) fn reader_line(&mut self, view: &dyn View, settings: &Settings) -> Line {
         let process = self.process(view);
-        let call = match self.dice.below(20) {
+        let call = match self.dice.below(22) {
             0..=5 => {
                 let (owner, mark) = (self.owner(), self.mark());
                 Call::RegisterReader { owner, mark, card: self.card(view, settings, process) }
@@ -83,7 +108,8 @@ impl Maker<'_> {
             }
             12 | 13 => Call::MinActiveReaderFrame { card: self.card(view, settings, process) },
             14 => Call::CopyBackLimit { card: self.card(view, settings, process) },
-            15 => Call::PublishCommit { max_frame: self.mark(), checksum_1: 1, checksum_2: 2, transaction_count: 3 },
+            15 | 16 => Call::HasActiveDbFileReader { card: self.card(view, settings, process) },
+            17 => Call::PublishCommit { max_frame: self.mark(), checksum_1: 1, checksum_2: 2, transaction_count: 3 },
             _ => return self.damage_slots(view, process),
         };
         Line::Call { process, call }
@@ -112,7 +138,8 @@ impl Maker<'_> {
         let process = self.process(view);
         let own = &view.processes()[process];
         let call = match self.dice.below(20) {
-            0..=7 => {
+            0 => Call::RegisterDbFileReader { owner: self.owner(), card: self.card(view, settings, process) },
+            1..=7 => {
                 let (owner, mark) = (self.owner(), self.mark());
                 Call::RegisterReaderForSnapshot { owner, mark, card: self.card(view, settings, process) }
             }
