@@ -3,7 +3,7 @@
 use crate::memory::{Memory, Settings, SharedCell, BLOCK_ENTRIES, BLOCK_HASH_CELLS, LINUX_OFD};
 use crate::random::{shortest, Found};
 use crate::script::{Call, Line, New};
-use crate::session::{Session, Sides};
+use crate::session::{Cells, Session, Sides};
 
 /// Two pages with home 2,681, and one with the last home.
 const PAGE: u64 = 7;
@@ -42,12 +42,12 @@ pub fn run(sides: Sides, length: usize, mut told: impl FnMut(&Tally)) -> Result<
 
 /// Makes the opening's lines. All cells are compared at the end.
 fn open(session: &mut Session, opening: &Opening, sides: Sides) -> Result<(), Found> {
-    session.compares_cells = false;
+    session.cells = Cells::None;
     let lines: Vec<Line> = opening.lines.iter().cloned().chain([Line::Dump { process: 0 }]).collect();
     for (made, line) in lines.iter().enumerate() {
         session.step(line).map_err(|_| shortest(sides, lines[..=made].to_vec()))?;
     }
-    session.compares_cells = true;
+    session.cells = Cells::All;
     Ok(())
 }
 

@@ -7,6 +7,7 @@
 //! - `session`: one script on one side or on both, with every cell compared after each call.
 //! - `random`: scripts of its own making, and the shortest one that shows a difference.
 //! - `exhaustive`: all short sequences of calls on the index.
+//! - `states`: every state of two reader slots, and each call on readers in it.
 
 pub mod exhaustive;
 pub mod memory;
@@ -15,3 +16,4 @@ pub mod refusals;
 pub mod script;
 pub mod session;
 pub mod sides;
+pub mod states;

@@ -1,7 +1,8 @@
 //! One script on the port, on the Rust, or on both with every cell compared after each call.
 
 use crate::memory::{
-    copy, differing_cells, Memory, Own, OwnCell, Record, Settings, SharedCell, View, BLOCK_ENTRIES, BLOCK_HASH_CELLS,
+    copy, differing_cells, Memory, Own, OwnCell, Record, Settings, SharedCell, Slots, View, BLOCK_ENTRIES,
+    BLOCK_HASH_CELLS,
 };
 use crate::refusals::{refusal, rust_on_refusal, Asked, RustOnRefusal};
 use crate::script::{Answer, Call, Line, New};
@@ -77,11 +78,18 @@ struct World {
     lent: Lent,
 }
 
+/// The cells that are compared after each call, besides the answers.
+#[derive(Clone, Copy, Debug, PartialEq, Eq)]
+pub enum Cells {
+    None,
+    AllButIndex,
+    All,
+}
+
 pub struct Session<'a> {
     sides: Sides<'a>,
     world: Option<World>,
-    /// Whether every cell is compared after each call, and not the answers alone.
-    pub compares_cells: bool,
+    pub cells: Cells,
     pub calls: u64,
     /// Of these, the ones on the index.
     pub on_index: u64,
@@ -92,7 +100,7 @@ pub struct Session<'a> {
 
 impl<'a> Session<'a> {
     pub fn new(sides: Sides<'a>) -> Self {
-        Self { sides, world: None, compares_cells: true, calls: 0, on_index: 0, on_readers: 0, refused: 0 }
+        Self { sides, world: None, cells: Cells::All, calls: 0, on_index: 0, on_readers: 0, refused: 0 }
     }
 
     /// The memory as it stands, of the port if it takes part; `None` before the first `new`.
@@ -119,6 +127,18 @@ impl<'a> Session<'a> {
         }
     }
 
+    /// Gives both sides these slots and own cells.
+    pub fn set_readers(&mut self, slots: &Slots, own: &[Own]) {
+        let World { port, rust, .. } = self.world.as_mut().expect("a script opens with new");
+        if let Some(memory) = port {
+            memory.slots.clone_from(slots);
+            memory.processes.clone_from_slice(own);
+        }
+        if let Some(rust) = rust {
+            rust.set_readers(slots, own);
+        }
+    }
+
     pub fn step(&mut self, line: &Line) -> Result<Reply, Box<Difference>> {
         match line {
             Line::Comment(_) => return Ok(Reply::Silent),
@@ -132,7 +152,7 @@ impl<'a> Session<'a> {
         let Some(world) = &mut self.world else { return Ok(Reply::Unknown) };
         let reply = match line {
             Line::Call { process, call } if *process < world.processes() => {
-                let reply = world.call(self.sides.port, *process, call, line, self.compares_cells)?;
+                let reply = world.call(self.sides.port, *process, call, line, self.cells)?;
                 if let Reply::Answer(answer) = &reply {
                     self.calls += 1;
                     self.on_index += u64::from(call.is_on_index());
@@ -190,7 +210,7 @@ impl World {
         process: usize,
         call: &Call,
         line: &Line,
-        compares_cells: bool,
+        cells: Cells,
     ) -> Result<Reply, Box<Difference>> {
         let number = self.refusal(process, call);
         let port_answer = match (port, &mut self.port) {
@@ -212,7 +232,9 @@ impl World {
         };
         let agree = match (&self.port, &port_answer) {
             (Some(memory), Some(answer)) => {
-                rust_answer.as_ref() == Ok(answer) && (!compares_cells || rust.same(memory))
+                rust_answer.as_ref() == Ok(answer)
+                    && (cells == Cells::None || rust.same_readers(memory))
+                    && (cells != Cells::All || rust.same_index(memory))
             }
             // The Rust alone: what it does must still agree with the table of refusals.
             _ => rust_answer.is_ok(),

@@ -1,6 +1,6 @@
 //! What the port and the Rust each have to offer to a session.
 
-use crate::memory::{Header, Memory, OwnCell, Record, Settings, SharedCell, View};
+use crate::memory::{Header, Memory, Own, OwnCell, Record, Settings, SharedCell, Slots, View};
 use crate::script::{Answer, Call, Card, New, Part, PARTS};
 
 /// How much of each part calls are lent; `None`: all of it.
@@ -201,8 +201,14 @@ pub trait Rust: View {
     /// Takes every cell from a memory of the same settings.
     fn set_memory(&mut self, memory: &Memory);
 
-    /// Whether every cell is the same.
-    fn same(&self, memory: &Memory) -> bool;
+    /// Takes the slots, and the own cells of each process.
+    fn set_readers(&mut self, slots: &Slots, own: &[Own]);
+
+    /// Whether every cell of the index is the same: pages, frames and hash.
+    fn same_index(&self, memory: &Memory) -> bool;
+
+    /// Whether every other cell is.
+    fn same_readers(&self, memory: &Memory) -> bool;
 }
 
 /// Makes fresh memory for the Rust.

@@ -1,10 +1,12 @@
 //! `./compare`: call scripts on the port and on the Rust.
 
 use calls::exhaustive;
+
 use calls::random::{self, Family, Found, Tally, Wanted};
 use calls::script::Line;
 use calls::session::{Reply, Session, Sides};
 use calls::sides::{MakeRust, Port};
+use calls::states;
 use std::io::{BufWriter, Write};
 use std::process::ExitCode;
 
@@ -14,7 +16,8 @@ const USAGE: &str = "usage: compare FILE                      each call on both 
        compare --random SEED SEQUENCES [FAMILY..]   scripts of the tool's own making, on both sides
                                          FAMILY: header, index, readers or shared; none: all that the port has
        compare --random-rust SEED SEQUENCES   the same on the Rust alone, against the table of refusals
-       compare --exhaustive LENGTH       all sequences of up to LENGTH calls on the index, on both sides
+       compare --exhaustive LENGTH       every state of two slots with each call on readers, and all sequences of up
+                                         to LENGTH calls on the index, on both sides
        compare --scripts SEED SEQUENCES  prints the scripts of --random";
 
 #[cfg(feature = "port")]
@@ -103,6 +106,12 @@ fn random_scripts(sides: Sides, words: &[&str]) -> ExitCode {
 
 fn all_sequences(sides: Sides, words: &[&str]) -> ExitCode {
     let Ok(length) = words[1].parse() else { return fault(USAGE) };
+    match states::run(sides) {
+        Ok(states::Tally { states, calls }) => {
+            println!("exhaustive: {states} states of two slots, {calls} calls, no difference");
+        }
+        Err(found) => return told(&found),
+    }
     let mut total = 0;
     let run = exhaustive::run(sides, length, |tally| {
         println!("exhaustive: {}, {} sequences", tally.opening, tally.sequences);

@@ -140,20 +140,20 @@ impl MappedFile {
         unsafe { self.blocks[block].0.as_ptr().add(BLOCK_ENTRIES * 16).cast() }
     }
 
-    /// Copies all mapped memory into `kept`.
-    pub(crate) fn keep(&self, kept: &mut Vec<u8>) {
+    /// Copies the mapped memory into `kept`, the blocks only if wanted.
+    pub(crate) fn keep(&self, kept: &mut Vec<u8>, blocks: bool) {
         kept.clear();
-        for part in self.parts() {
+        for part in self.parts().take(if blocks { usize::MAX } else { 1 }) {
             kept.extend_from_slice(unsafe { std::slice::from_raw_parts(part.0.as_ptr(), part.1.size()) });
         }
     }
 
     /// Puts back what `keep` copied.
-    pub(crate) fn put_back(&self, kept: &[u8]) {
-        let mut at = 0;
+    pub(crate) fn put_back(&self, mut kept: &[u8]) {
         for part in self.parts() {
-            unsafe { std::ptr::copy_nonoverlapping(kept[at..].as_ptr(), part.0.as_ptr(), part.1.size()) };
-            at += part.1.size();
+            let Some((bytes, further)) = kept.split_at_checked(part.1.size()) else { break };
+            unsafe { std::ptr::copy_nonoverlapping(bytes.as_ptr(), part.0.as_ptr(), bytes.len()) };
+            kept = further;
         }
     }
 

@@ -263,7 +263,8 @@ impl Rust for World {
 
     fn attempt(&mut self, process: usize, call: &Call) -> Result<Answer, Panicked> {
         let mut kept = std::mem::take(&mut self.kept);
-        self.file.keep(&mut kept);
+        // A call on readers that wrote to the index would be seen in the next comparison of it.
+        self.file.keep(&mut kept, !call.is_on_readers());
         let answer = self.make(process, call);
         self.file.put_back(&kept);
         self.kept = kept;
@@ -314,20 +315,26 @@ impl Rust for World {
                 memory.block_hash(block),
             );
         }
-        self.slots.clone_from(&memory.slots);
-        self.own.clone_from(&memory.processes);
+        self.set_readers(&memory.slots, &memory.processes);
+    }
+
+    fn set_readers(&mut self, slots: &Slots, own: &[Own]) {
+        self.slots.clone_from(slots);
+        self.own.clone_from_slice(own);
         self.place_slots();
     }
 
-    fn same(&self, memory: &Memory) -> bool {
+    fn same_index(&self, memory: &Memory) -> bool {
         let blocks = memory.pages.chunks(BLOCK_ENTRIES).zip(memory.frames.chunks(BLOCK_ENTRIES));
+        blocks.enumerate().all(|(block, (pages, frames))| {
+            same_entries(self.file.entries(block), pages, frames) && self.file.hash(block) == memory.block_hash(block)
+        })
+    }
+
+    fn same_readers(&self, memory: &Memory) -> bool {
         self.header() == memory.header
             && self.slots == memory.slots
             && self.own.iter().zip(&memory.processes).all(|(a, b)| a.same(b))
-            && blocks.enumerate().all(|(block, (pages, frames))| {
-                same_entries(self.file.entries(block), pages, frames)
-                    && self.file.hash(block) == memory.block_hash(block)
-            })
     }
 }
 

@@ -2,9 +2,10 @@
 
 use calls::exhaustive;
 use calls::random::{self, Wanted};
-use calls::script::{Answer, Line};
+use calls::script::{Answer, Card, Line};
 use calls::session::{Session, Sides};
 use calls::sides::{Given, Port};
+use calls::states;
 
 /// A port of one call, which may be wrong where the number wraps, in its answer or in a cell beside it.
 #[derive(Default)]
@@ -44,6 +45,15 @@ impl Port for NeverResets {
     }
 }
 
+/// A port of one call on readers, which always says no.
+struct NoDbFileReader;
+
+impl Port for NoDbFileReader {
+    fn has_active_db_file_reader(&self, _: Given, _: &Card) -> Option<Answer> {
+        Some(Answer::Active(false))
+    }
+}
+
 fn with(port: &dyn Port) -> Sides<'_> {
     Sides { port: Some(port), rust: Some(oracle::fresh) }
 }
@@ -73,6 +83,13 @@ fn a_wrong_sequence_is_found_among_all() {
     let Err(found) = exhaustive::run(with(&NeverResets), 2, |_| ()) else { panic!("no difference") };
     let script: Vec<String> = found.script.iter().map(Line::to_string).collect();
     assert_eq!(script, ["new 1 1 1 1 O 1", "record 0 7 1 1", "record 0 7 1 1"]);
+}
+
+#[test]
+fn a_wrong_call_is_found_among_all_states() {
+    let Err(found) = states::run(with(&NoDbFileReader)) else { panic!("no difference") };
+    let script: Vec<String> = found.script.iter().map(Line::to_string).collect();
+    assert_eq!(script, ["new 1 1 1 2 O 1", "poke sframe 1 0", "dbreader 0 00"]);
 }
 
 #[test]
