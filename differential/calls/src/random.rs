@@ -2,9 +2,11 @@
 
 mod dice;
 mod header;
+mod holds;
 mod index;
 mod readers;
 
+use crate::demand3::Checked;
 use crate::memory::{Memory, Settings, View, BLOCK_ENTRIES, BLOCK_HASH_CELLS, LINUX_OFD, PROCESS_SCOPED_FCNTL};
 use crate::script::{Call, Line, New, Part, PARTS};
 use crate::session::{Difference, Session, Sides};
@@ -13,11 +15,14 @@ use dice::Dice;
 use std::time::{Duration, Instant};
 
 /// What a run of random scripts came to.
+#[derive(Default)]
 pub struct Tally {
     pub calls: u64,
     pub on_index: u64,
     pub on_readers: u64,
     pub refused: u64,
+    /// Under a hold.
+    pub checked: Checked,
 }
 
 /// A difference, with the shortest script found that shows it.
@@ -46,7 +51,7 @@ pub fn run(sides: Sides, wanted: &Wanted, mut each: impl FnMut(&[Line])) -> Resu
     let Wanted { seed, sequences, .. } = *wanted;
     let mut families = Family::offered(&sides);
     families.retain(|family| wanted.families.is_empty() || wanted.families.contains(family));
-    let mut tally = Tally { calls: 0, on_index: 0, on_readers: 0, refused: 0 };
+    let mut tally = Tally::default();
     if families.is_empty() {
         return Ok(tally);
     }
@@ -57,7 +62,7 @@ pub fn run(sides: Sides, wanted: &Wanted, mut each: impl FnMut(&[Line])) -> Resu
         for line in maker.opening() {
             step(line, &mut session, &mut script, sides)?;
         }
-        for _ in 0..maker.dice.between(5, 70) {
+        for _ in 0..maker.length() {
             let line = maker.line(&session);
             step(line, &mut session, &mut script, sides)?;
         }
@@ -66,6 +71,7 @@ pub fn run(sides: Sides, wanted: &Wanted, mut each: impl FnMut(&[Line])) -> Resu
         tally.on_index += session.on_index;
         tally.on_readers += session.on_readers;
         tally.refused += session.refused;
+        tally.checked.add(&session.demand3.checked);
     }
     Ok(tally)
 }
@@ -125,6 +131,8 @@ pub enum Family {
     Readers,
     /// The shared marks.
     Shared,
+    /// Readers' holds with all calls around them, and nothing else: what demand 3 is about.
+    Holds,
 }
 
 impl Family {
@@ -134,6 +142,7 @@ impl Family {
             "index" => Self::Index,
             "readers" => Self::Readers,
             "shared" => Self::Shared,
+            "holds" => Self::Holds,
             _ => return None,
         })
     }
@@ -145,6 +154,7 @@ impl Family {
             (Self::Index, Call::RecordFrame { page: 1, frame: 1, grow: false }),
             (Self::Readers, Call::RegisterReader { owner: 1, mark: 1, card: vec![1] }),
             (Self::Shared, Call::RegisterReaderForSnapshot { owner: 1, mark: 1, card: vec![1] }),
+            (Self::Holds, Call::MinActiveReaderFrame { card: vec![1] }),
         ];
         let has = |call: &Call| {
             let settings = Settings { capacity: 1, max_blocks: 1, slots: 1, mode: LINUX_OFD };
@@ -172,11 +182,19 @@ impl<'a> Maker<'a> {
         Self { dice, families, family, mixed }
     }
 
+    /// How many lines follow the opening.
+    fn length(&mut self) -> u64 {
+        match self.family {
+            Family::Holds => self.dice.between(40, 200),
+            _ => self.dice.between(5, 70),
+        }
+    }
+
     /// `new`, and often an index that is filled already, or slots that are taken.
     fn opening(&mut self) -> Vec<Line> {
         let mode = self.dice.of(&[LINUX_OFD, PROCESS_SCOPED_FCNTL]);
-        let processes = self.dice.of(&[1, 1, 2, 2, 3, 4]);
-        let on_readers = matches!(self.family, Family::Readers | Family::Shared);
+        let processes = self.dice.of(&[1, 2, 2, 3, 4]);
+        let on_readers = matches!(self.family, Family::Readers | Family::Shared | Family::Holds);
         let slots = if on_readers || self.dice.one_in(2) { self.slot_count() } else { self.dice.between(1, 4) as u32 };
         let (mut capacity, mut max_blocks) = (self.dice.of(&[1, 8, 4096, 65_536]), 1);
         if self.family == Family::Index {
@@ -189,6 +207,9 @@ impl<'a> Maker<'a> {
                 _ => self.dice.of(&[1, 2, 3, 17, 4095, 4096, 4097, 8191, 8192, 8193, 12_289, 65_535, 65_536]),
             };
         }
+        if self.family == Family::Holds {
+            (capacity, max_blocks) = (self.dice.of(&[5, 20, 60, 4096, 65_536]), self.dice.of(&[1, 1, 1, 2]));
+        }
         let start_blocks = self.dice.between(0, max_blocks.into()) as u32;
         let settings = Settings { capacity, max_blocks, slots, mode };
         let mut lines = vec![Line::New(New { settings, start_blocks, processes })];
@@ -199,7 +220,9 @@ impl<'a> Maker<'a> {
                 _ => {}
             }
         }
-        if on_readers && self.dice.one_in(4) {
+        if self.family == Family::Holds {
+            self.before_holds(processes, &mut lines);
+        } else if on_readers && self.dice.one_in(4) {
             self.occupying(&settings, processes, &mut lines);
         }
         lines
@@ -213,6 +236,9 @@ impl<'a> Maker<'a> {
     fn line(&mut self, session: &Session) -> Line {
         let view = session.view().expect("a script opens with new");
         let settings = session.settings().expect("a script opens with new");
+        if self.family == Family::Holds {
+            return self.hold_line(view, settings);
+        }
         let fitting = Settings {
             capacity: settings.capacity.clamp(1, 65_536),
             max_blocks: view.room_blocks() as u32,
@@ -232,6 +258,7 @@ impl<'a> Maker<'a> {
             Family::Index => self.index_line(view, settings),
             Family::Readers => self.reader_line(view, settings),
             Family::Shared => self.shared_line(view, settings),
+            Family::Holds => self.hold_line(view, settings),
         }
     }
 

@@ -1,5 +1,6 @@
 //! One script on the port, on the Rust, or on both with every cell compared after each call.
 
+use crate::demand3::Demand3;
 use crate::memory::{
     copy, differing_cells, Memory, Own, OwnCell, Record, Settings, SharedCell, Slots, View, BLOCK_ENTRIES,
     BLOCK_HASH_CELLS,
@@ -43,13 +44,19 @@ impl fmt::Display for Reply {
     }
 }
 
-/// Where the sides part.
+/// Where the sides part, or an answer is not the one that a hold is owed.
 #[derive(Debug)]
 pub struct Difference {
     pub line: Line,
-    pub port: String,
-    pub rust: String,
+    /// By whom, and what.
+    pub answers: [(&'static str, String); 2],
     pub cells: Vec<String>,
+}
+
+impl Difference {
+    fn new(line: &Line, port: String, rust: String, cells: Vec<String>) -> Box<Self> {
+        Box::new(Self { line: line.clone(), answers: [("port", port), ("Rust", rust)], cells })
+    }
 }
 
 /// How many of the differing cells are shown.
@@ -58,8 +65,9 @@ const SHOWN_CELLS: usize = 40;
 impl fmt::Display for Difference {
     fn fmt(&self, f: &mut fmt::Formatter) -> fmt::Result {
         writeln!(f, "difference at: {}", self.line)?;
-        writeln!(f, "  port: {}", self.port)?;
-        writeln!(f, "  Rust: {}", self.rust)?;
+        for (whose, answer) in &self.answers {
+            writeln!(f, "  {whose}: {answer}")?;
+        }
         for cell in self.cells.iter().take(SHOWN_CELLS) {
             writeln!(f, "  {cell}")?;
         }
@@ -96,11 +104,13 @@ pub struct Session<'a> {
     /// And those on readers.
     pub on_readers: u64,
     pub refused: u64,
+    pub demand3: Demand3,
 }
 
 impl<'a> Session<'a> {
     pub fn new(sides: Sides<'a>) -> Self {
-        Self { sides, world: None, cells: Cells::All, calls: 0, on_index: 0, on_readers: 0, refused: 0 }
+        let demand3 = Demand3::default();
+        Self { sides, world: None, cells: Cells::All, calls: 0, on_index: 0, on_readers: 0, refused: 0, demand3 }
     }
 
     /// The memory as it stands, of the port if it takes part; `None` before the first `new`.
@@ -120,6 +130,7 @@ impl<'a> Session<'a> {
 
     /// Gives both sides the memory that was kept.
     pub fn put_back(&mut self, kept: &Memory) {
+        self.demand3.stop();
         let World { port, rust, .. } = self.world.as_mut().expect("memory was kept");
         port.as_mut().expect("memory of the port was kept").copy_of(kept);
         if let Some(rust) = rust {
@@ -129,6 +140,7 @@ impl<'a> Session<'a> {
 
     /// Gives both sides these slots and own cells.
     pub fn set_readers(&mut self, slots: &Slots, own: &[Own]) {
+        self.demand3.stop();
         let World { port, rust, .. } = self.world.as_mut().expect("a script opens with new");
         if let Some(memory) = port {
             memory.slots.clone_from(slots);
@@ -145,6 +157,7 @@ impl<'a> Session<'a> {
             Line::Unknown(_) => return Ok(Reply::Unknown),
             Line::New(new) => {
                 self.world = Some(World::new(&self.sides, new));
+                self.demand3.begin();
                 return Ok(Reply::New);
             }
             _ => {}
@@ -158,6 +171,11 @@ impl<'a> Session<'a> {
                     self.on_index += u64::from(call.is_on_index());
                     self.on_readers += u64::from(call.is_on_readers());
                     self.refused += u64::from(matches!(answer, Answer::Refused(_)));
+                    let seen = self.demand3.see(*process, call, answer, world.view().slots());
+                    seen.map_err(|owed| {
+                        let answers = [("answer", answer.to_string()), ("demand 3", owed)];
+                        Box::new(Difference { line: line.clone(), answers, cells: vec![] })
+                    })?;
                 }
                 return Ok(reply);
             }
@@ -178,7 +196,11 @@ impl<'a> Session<'a> {
             Line::Registry { process, index, record } => world.poke_registry(*process, *index, *record),
             _ => false,
         };
-        Ok(if reply { Reply::Set } else { Reply::Unknown })
+        if !reply {
+            return Ok(Reply::Unknown);
+        }
+        self.demand3.stop();
+        Ok(Reply::Set)
     }
 }
 
@@ -241,12 +263,12 @@ impl World {
         };
         match rust_answer {
             Ok(answer) if agree => Ok(Reply::Answer(answer)),
-            _ => Err(Box::new(Difference {
-                line: line.clone(),
-                port: port_answer.map_or("not asked".into(), |answer| answer.to_string()),
-                rust: rust_answer.map_or_else(|words| words, |answer| answer.to_string()),
-                cells: self.port.as_ref().map_or(Vec::new(), |memory| differing_cells(memory, &copy(&**rust))),
-            })),
+            _ => Err(Difference::new(
+                line,
+                port_answer.map_or("not asked".into(), |answer| answer.to_string()),
+                rust_answer.map_or_else(|words| words, |answer| answer.to_string()),
+                self.port.as_ref().map_or(Vec::new(), |memory| differing_cells(memory, &copy(&**rust))),
+            )),
         }
     }
 
@@ -261,9 +283,7 @@ impl World {
         let port = self.port.as_ref().map(|memory| memory.dump(process));
         let rust = self.rust.as_ref().map(|rust| copy(&**rust).dump(process));
         match (port, rust) {
-            (Some(port), Some(rust)) if port != rust => {
-                Err(Box::new(Difference { line: line.clone(), port, rust, cells: vec![] }))
-            }
+            (Some(port), Some(rust)) if port != rust => Err(Difference::new(line, port, rust, vec![])),
             (Some(dump), _) | (None, Some(dump)) => Ok(Reply::Dump(dump)),
             (None, None) => unreachable!("a session has a side"),
         }

@@ -1,5 +1,6 @@
 //! `./compare`: call scripts on the port and on the Rust.
 
+use calls::demand3::Checked;
 use calls::exhaustive;
 
 use calls::random::{self, Family, Found, Tally, Wanted};
@@ -14,7 +15,8 @@ const USAGE: &str = "usage: compare FILE                      each call on both 
        compare --port FILE               the port's answers
        compare --rust FILE               the Rust's answers
        compare --random SEED SEQUENCES [FAMILY..]   scripts of the tool's own making, on both sides
-                                         FAMILY: header, index, readers or shared; none: all that the port has
+                                         FAMILY: header, index, readers, shared or holds; none: all that the port has
+       compare --demand3 SEED SEQUENCES  scripts of holds on the port alone: is demand 3 met?
        compare --random-rust SEED SEQUENCES   the same on the Rust alone, against the table of refusals
        compare --exhaustive LENGTH       every state of two slots with each call on readers, and all sequences of up
                                          to LENGTH calls on the index, on both sides
@@ -40,14 +42,15 @@ fn main() -> ExitCode {
         ["--port", _] => (script, Sides { rust: None, ..both }),
         ["--rust", _] => (script, Sides { port: None, ..both }),
         ["--random", _, _, ..] => (random_scripts, both),
+        ["--demand3", _, _] => (holds, Sides { rust: None, ..both }),
         ["--exhaustive", _] => (all_sequences, both),
         ["--scripts", _, _, ..] => (print_scripts, both),
         ["--random-rust", _, _, ..] => (random_scripts, Sides { port: None, ..both }),
         [file] if !file.starts_with("--") => (script, both),
         _ => return fault(USAGE),
     };
-    if RUST.is_none() && words[0] != "--port" {
-        return fault("the Rust source is missing: only --port works");
+    if RUST.is_none() && !["--port", "--demand3"].contains(&words[0]) {
+        return fault("the Rust source is missing: only --port and --demand3 work");
     }
     run(sides, &words)
 }
@@ -94,14 +97,21 @@ fn wanted(words: &[&str]) -> Option<Wanted> {
 fn random_scripts(sides: Sides, words: &[&str]) -> ExitCode {
     let Some(wanted) = wanted(&words[1..]) else { return fault(USAGE) };
     match random::run(sides, &wanted, |_| ()) {
-        Ok(Tally { calls, on_index, on_readers, refused }) => {
+        Ok(Tally { calls, on_index, on_readers, refused, checked }) => {
             let Wanted { seed, sequences, .. } = wanted;
             let calls = format!("{calls} calls ({on_index} on the index, {on_readers} on readers)");
-            println!("random: {seed}, {sequences} sequences, {calls}, {refused} refused, no difference");
+            let Checked { lookups, lists, floors, limits } = checked;
+            let held = format!("{lookups} lookups, {lists} lists, {floors} floors and {limits} limits under a hold");
+            println!("random: {seed}, {sequences} sequences, {calls}, {refused} refused, {held}, no difference");
             ExitCode::SUCCESS
         }
         Err(found) => told(&found),
     }
+}
+
+/// SEED SEQUENCES, and only what a hold is owed can fail.
+fn holds(sides: Sides, words: &[&str]) -> ExitCode {
+    random_scripts(sides, &[words, &["holds"]].concat())
 }
 
 fn all_sequences(sides: Sides, words: &[&str]) -> ExitCode {

@@ -105,7 +105,7 @@ impl Maker<'_> {
         view.page(self.entry(len))
     }
 
-    fn visible_len(&self, view: &dyn View) -> usize {
+    pub(super) fn visible_len(&self, view: &dyn View) -> usize {
         (view.header().frame_index_len as usize).min(view.room_blocks() * BLOCK_ENTRIES)
     }
 
@@ -120,7 +120,7 @@ impl Maker<'_> {
     }
 
     /// A frame near one that the index has.
-    fn likely_frame(&mut self, view: &dyn View) -> u64 {
+    pub(super) fn likely_frame(&mut self, view: &dyn View) -> u64 {
         let len = self.visible_len(view);
         if len == 0 || self.dice.one_in(6) {
             return self.number_near(view.header().max_frame);

@@ -4,6 +4,12 @@ use super::Maker;
 use crate::memory::{Own, OwnCell, Record, Settings, SharedCell, View, UNUSED};
 use crate::script::{Call, Card, Line};
 
+/// Whether another process holds a slot.
+pub(super) fn held_elsewhere(view: &dyn View, process: usize, slot: usize) -> bool {
+    let held = |own: &Own| own.local_owners.get(slot).is_some_and(|owner| *owner != 0);
+    view.processes().iter().enumerate().any(|(p, own)| p != process && held(own))
+}
+
 impl Maker<'_> {
     /// Slots that are mostly taken, here or by a process that may be gone.
     pub(super) fn occupying(&mut self, settings: &Settings, processes: usize, lines: &mut Vec<Line>) {
@@ -31,16 +37,10 @@ impl Maker<'_> {
     }
 
     /// Lock answers: true to who holds what, all granted, mixed, or bad.
-    fn card(&mut self, view: &dyn View, settings: &Settings, process: usize) -> Card {
+    pub(super) fn card(&mut self, view: &dyn View, settings: &Settings, process: usize) -> Card {
         let slots = settings.slots.min(300) as usize;
-        let held = |i: usize, own: &Own| own.local_owners.get(i).is_some_and(|owner| *owner != 0);
         let mut card: Card = match self.dice.below(6) {
-            0 | 1 => (0..slots)
-                .map(|i| {
-                    let elsewhere = view.processes().iter().enumerate().any(|(p, own)| p != process && held(i, own));
-                    u8::from(!elsewhere)
-                })
-                .collect(),
+            0 | 1 => (0..slots).map(|i| u8::from(!held_elsewhere(view, process, i))).collect(),
             2 => vec![1; slots],
             3 => (0..slots).map(|_| self.dice.of(&[0, 0, 0, 1])).collect(),
             4 => (0..slots).map(|_| self.dice.of(&[0, 1])).collect(),
@@ -59,7 +59,7 @@ impl Maker<'_> {
         card
     }
 
-    fn mark(&mut self) -> u64 {
+    pub(super) fn mark(&mut self) -> u64 {
         match self.dice.below(12) {
             0 => self.dice.of(&[0, 0, UNUSED, UNUSED - 1]),
             1 => self.dice.roll() >> self.dice.below(64),
@@ -68,7 +68,7 @@ impl Maker<'_> {
     }
 
     /// A slot, more often one that is held here.
-    fn slot(&mut self, view: &dyn View, process: usize) -> u32 {
+    pub(super) fn slot(&mut self, view: &dyn View, process: usize) -> u32 {
         let slots = view.slots().frames.len();
         let held: Vec<usize> = (0..slots).filter(|&i| view.processes()[process].local_owners[i] != 0).collect();
         match self.dice.below(8) {
@@ -80,7 +80,7 @@ impl Maker<'_> {
     }
 
     /// The owner that the slot's shared or own cell names, or any.
-    fn slot_owner(&mut self, view: &dyn View, process: usize, slot: u32) -> u64 {
+    pub(super) fn slot_owner(&mut self, view: &dyn View, process: usize, slot: u32) -> u64 {
         let cell = |cells: &[u64]| cells.get(slot as usize).copied();
         let named = match self.dice.below(6) {
             0..=3 => cell(&view.slots().owners),
