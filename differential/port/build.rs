@@ -1,4 +1,4 @@
-//! Links the port's static library.
+//! Links the port's static library, or a shared one.
 
 use std::path::PathBuf;
 
@@ -8,5 +8,6 @@ fn main() {
     println!("cargo:rerun-if-changed={}", library.display());
     let (folder, name) = (library.parent().unwrap(), library.file_name().unwrap());
     println!("cargo:rustc-link-search=native={}", folder.display());
-    println!("cargo:rustc-link-lib=static:+verbatim={}", name.display());
+    let kind = if library.extension().is_some_and(|end| end == "so") { "dylib" } else { "static" };
+    println!("cargo:rustc-link-lib={kind}:+verbatim={}", name.display());
 }
