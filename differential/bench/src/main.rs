@@ -2,11 +2,12 @@
 
 mod clock;
 mod pages;
+mod readers;
 mod sides;
 mod work;
 
 use pages::{sharing_homes, Dice};
-use sides::{Port, Rust, RustWithFastHasher, Side};
+use sides::{Port, Rust, RustWithFastHasher};
 use std::hint::black_box;
 use work::{Fill, Find, Header, List, RollbackAndRecord, Work, ALL, BLOCK};
 
@@ -27,12 +28,16 @@ impl Times {
     }
 }
 
-fn time<S: Side>(work: &impl Work, side: &mut S, times: &mut Times) -> u64 {
+/// Runs the line once, which does its unit so many times.
+fn time(run: &mut dyn FnMut() -> u64, units: u64, times: &mut Times) -> u64 {
     let began = clock::now();
-    let sum = black_box(work.run(side));
-    times.0.push((clock::now() - began) / work.times() as f64);
+    let sum = black_box(run());
+    times.0.push((clock::now() - began) / units as f64);
     sum
 }
+
+/// The port, the Rust, and the Rust with a fast hasher.
+type Sides<'a> = [&'a mut dyn FnMut() -> u64; 3];
 
 struct Table {
     rounds: usize,
@@ -41,25 +46,47 @@ struct Table {
 }
 
 impl Table {
-    /// Runs the sides in turns, each of them first in a third of the rounds.
+    /// A line of calls on the index or the header.
     fn line(&mut self, name: &str, work: impl Work) {
-        if self.only.as_ref().is_some_and(|only| !name.contains(only.as_str())) {
+        if !self.wants(name) {
             return;
         }
         let (mut port, mut rust, mut fast) = (Port::new(), Rust::new(), RustWithFastHasher::new());
         work.prepare(&mut port);
         work.prepare(&mut rust);
         work.prepare(&mut fast);
+        let sides: Sides = [&mut || work.run(&mut port), &mut || work.run(&mut rust), &mut || work.run(&mut fast)];
+        self.rounds(name, work.times(), sides);
+    }
+
+    /// A line of calls on readers.
+    fn readers_line(&mut self, name: &str, table: readers::Table, work: readers::Work) {
+        use readers::Side;
+        if !self.wants(name) {
+            return;
+        }
+        let mut port = readers::Port::new(&table);
+        let mut rust = readers::Rust::new(&table);
+        let mut fast = readers::RustWithFastHasher::new(&table);
+        work.prepare(&mut port);
+        work.prepare(&mut rust);
+        work.prepare(&mut fast);
+        let sides: Sides = [&mut || work.run(&mut port), &mut || work.run(&mut rust), &mut || work.run(&mut fast)];
+        self.rounds(name, readers::Work::TIMES, sides);
+    }
+
+    fn wants(&self, name: &str) -> bool {
+        self.only.as_ref().is_none_or(|only| name.contains(only.as_str()))
+    }
+
+    /// Runs the sides in turns, each of them first in a third of the rounds.
+    fn rounds(&mut self, name: &str, units: u64, mut sides: Sides) {
         let mut times = [const { Times(Vec::new()) }; 3];
         let mut sums = [0; 3];
         for round in 0..=self.rounds {
             for turn in 0..3 {
                 let side = (round + turn) % 3;
-                sums[side] = match side {
-                    0 => time(&work, &mut port, &mut times[side]),
-                    1 => time(&work, &mut rust, &mut times[side]),
-                    _ => time(&work, &mut fast, &mut times[side]),
-                };
+                sums[side] = time(&mut sides[side], units, &mut times[side]);
             }
             assert!(sums[0] == sums[1] && sums[0] == sums[2], "{name}: the answers differ, {sums:?}");
             if round == 0 {
@@ -93,6 +120,7 @@ fn main() {
     table.line("commit", Header::Commit);
     table.line("acquire and release of the writer lock", Header::AcquireAndRelease);
     table.line("checkpoint number raised", Header::Bump);
+    readers(&mut table);
     println!("load after: {}; worst ratio {:.2}", load(), table.worst);
 }
 
@@ -151,4 +179,22 @@ fn lists(table: &mut Table) {
     table.line("list, 10 entries", list(&all[..10], 1, 200));
     table.line("list, 10 entries, pages of 64 bits", list(&large[..10], 1, 200));
     table.line("list, 1 entry", list(&all[..1], 1, 200));
+}
+
+fn readers(table: &mut Table) {
+    use readers::{Table as Slots, Work};
+    for n in [64, 256] {
+        let most = n as usize - 1;
+        let mut line = |name: &str, slots, work| table.readers_line(&format!("{name}, {n} slots"), slots, work);
+        line("register and release, first slot free", Slots::new(n, 0), Work::RegisterAndRelease);
+        line("register and release, last slot free", Slots::new(n, most), Work::RegisterAndRelease);
+        line("register, none free, last slot reclaimed", Slots::new(n, most).with_stale_last(), Work::RegisterAnew);
+        line("shared register and release, first holder", Slots::new(n, 0), Work::Share);
+        line("shared register and release, second holder", Slots::new(n, 0), Work::Join);
+        for live in [1, 64, 256].into_iter().filter(|&live| live <= n as usize) {
+            line(&format!("floor, {live} live"), Slots::new(n, live), Work::Floor);
+        }
+        line("copy-back limit, 64 live", Slots::new(n, 64), Work::Limit);
+        line("has_active_db_file_reader, 64 live", Slots::new(n, 64), Work::DbFileReader);
+    }
 }

@@ -3,10 +3,10 @@
 use crate::io::MappedFile;
 use crate::shared_wal_coordination::peek::Process;
 use crate::sync::Arc;
-use calls::memory::{Header, Settings};
+use calls::memory::{Header, Settings, Slots};
 use std::sync::atomic::{AtomicU64, Ordering};
 
-pub struct Direct(Process);
+pub struct Direct(Process, Arc<MappedFile>);
 
 /// Paths differ, since the Rust allows one mapping of a path in a process.
 static OPENED: AtomicU64 = AtomicU64::new(0);
@@ -17,10 +17,16 @@ impl Direct {
         let file = Arc::new(MappedFile::new(settings.max_blocks as usize));
         file.set_lock(1);
         let opened = OPENED.fetch_add(1, Ordering::Relaxed);
-        let process = Process::open(file, &format!("direct-{opened}"), settings);
+        let process = Process::open(file.clone(), &format!("direct-{opened}"), settings);
         process.set_index_settings(settings.capacity, settings.max_blocks);
         process.set_header(&Header { frame_index_blocks: settings.max_blocks, ..Header::default() });
-        Self(process)
+        Self(process, file)
+    }
+
+    /// Sets the shared cells of the slots, and the lock answers of all calls from now on.
+    pub fn set_slots(&self, slots: &Slots, card: &[u8]) {
+        self.0.set_slots(slots);
+        self.1.set_card(card);
     }
 
     #[inline]
@@ -61,5 +67,46 @@ impl Direct {
     #[inline]
     pub fn bump_checkpoint_seq(&self) -> u32 {
         self.0.bump_checkpoint_seq()
+    }
+
+    #[inline]
+    pub fn max_frame(&self) -> u64 {
+        self.0.max_frame()
+    }
+
+    #[inline]
+    pub fn register_reader(&self, owner: u64, mark: u64) -> Option<u32> {
+        self.0.register_reader(owner, mark).map(|(slot, ..)| slot)
+    }
+
+    #[inline]
+    pub fn unregister_reader(&self, slot: u32, owner: u64) {
+        self.0.unregister_reader(slot, owner);
+    }
+
+    /// The slot is no longer held here; its shared cells stay.
+    #[inline]
+    pub fn forget_reader(&self, slot: u32) {
+        self.0.forget_reader(slot);
+    }
+
+    #[inline]
+    pub fn register_reader_for_snapshot(&self, owner: u64, mark: u64) -> Option<u32> {
+        self.0.register_reader_for_snapshot(owner, mark).map(|(slot, ..)| slot)
+    }
+
+    #[inline]
+    pub fn unregister_reader_for_snapshot(&self, mark: u64, slot: u32, owner: u64) {
+        self.0.unregister_reader_for_snapshot(mark, slot, owner);
+    }
+
+    #[inline]
+    pub fn min_active_reader_frame(&self) -> Option<u64> {
+        self.0.min_active_reader_frame()
+    }
+
+    #[inline]
+    pub fn has_active_db_file_reader(&self) -> bool {
+        self.0.has_active_db_file_reader()
     }
 }

@@ -211,6 +211,18 @@ fn read_registry(own: &mut Own, records: usize, map: &HashMap<u64, SharedReadMar
     }
 }
 
+/// For measurements, with nothing around a call.
+impl Process {
+    pub(crate) fn max_frame(&self) -> u64 {
+        self.0.header().max_frame.load(Ordering::Acquire)
+    }
+
+    /// In LinuxOfd, where only a count says that a slot is held.
+    pub(crate) fn forget_reader(&self, slot: u32) {
+        self.0.with_local_lock_state(|locks| locks.reader_locks[slot as usize] = 0);
+    }
+}
+
 /// The calls.
 impl Process {
     pub(crate) fn record_frame(&self, page: u64, frame: u64) {
