@@ -1,3 +1,7 @@
 -- Laws of the replies.
+mod Bumps
+mod Acquires
+mod Releases
+mod Touched
 mod Replies
 mod IndexReplies

@@ -1,29 +1,17 @@
-// Owners, publishes, bumps and the two locks.
-use header::locks;
-use header::locks::Acquire;
-use header::locks::Release;
+// Owners, publishes, bumps and the two locks. The header is lent: one proved call is given it by value, and what that call
+// leaves is stored over it.
+use crate::lock_reply;
+use crate::lock_reply::LockReply;
 use header::publish;
-use header::publish::Bumped;
 use wal_types::Header;
 use wal_types::SharedOwnerRecord;
-use wal_types::SharedWalOwnershipMode;
 ghost use mathlib.Core.Path.{_≡_};
 ghost use Prim.Native.Nat.{_+_, _*_, _/_, _%_, _^_};
 ghost use Rattle.header.specs.declared.locks.Lock.the-variants.{Writer, Checkpoint};
 ghost use Rattle.wal_types.specs.Call.{ok, value};
 ghost use Rattle.header.specs.Publish.{publish-commit, publish-backfill, bump-checkpoint-seq, bump-checkpoint-epoch, HeaderCall};
 ghost use Rattle.header.specs.Locks.{try-acquire, release};
-ghost use Rattle.wal_coordination.specs.LockReply.{mode-given, with-mode, acquire-reply, release-reply, LockReplied};
-
-// A lock call's answer in numbers. refusal: 0, or the number of the refusal. answer: 1 if the lock was taken or
-// released, else 0. header and local_owner are as the call leaves them: after a refusal, as they were given.
-#[repr(C)]
-pub struct LockReply {
-    pub refusal: u32,
-    pub answer: u32,
-    pub header: Header,
-    pub local_owner: u64,
-}
+ghost use Rattle.wal_coordination.specs.LockReply.{mode-given, with-mode, LockReplied};
 
 // An owner's number: the process id in its high 32 bits, the instance id in its low 32.
 #[no_mangle]
@@ -50,7 +38,7 @@ pub extern "C" fn wal_owner_instance_id(owner: u64) -> u32
     record.instance_id()
 }
 
-// Publishes a committed transaction. The header is lent and changed in place.
+// Publishes a committed transaction.
 #[no_mangle]
 pub extern "C" fn wal_publish_commit(
     header: &mut Header,
@@ -72,169 +60,88 @@ pub extern "C" fn wal_publish_commit(
 
 // Publishes how many frames are copied to the database file.
 #[no_mangle]
-pub extern "C" fn wal_publish_backfill(header: Header, nbackfills: u64) -> Header
-    ensures { λ r. ⌜ HeaderCall (publish-backfill nbackfills) header ok r ⌝ }
+pub extern "C" fn wal_publish_backfill(header: &mut Header, nbackfills: u64)
+    ensures { λ _. ⌜ HeaderCall (publish-backfill nbackfills) (now (header .entry)) ok (now (header .exit)) ⌝ }
 {
-    publish::publish_backfill(header, nbackfills)
+    *header = publish::publish_backfill(*header, nbackfills);
 }
 
-// Raises the checkpoint number; value is the new one.
+// Raises the checkpoint number; the answer is the new one.
 #[no_mangle]
-pub extern "C" fn wal_bump_checkpoint_seq(header: Header) -> Bumped
-    ensures { λ r. ⌜ HeaderCall bump-checkpoint-seq header (value (r .value)) (r .header) ⌝ }
+pub extern "C" fn wal_bump_checkpoint_seq(header: &mut Header) -> u32
+    ensures { λ r. ⌜ HeaderCall bump-checkpoint-seq (now (header .entry)) (value r) (now (header .exit)) ⌝ }
 {
-    publish::bump_checkpoint_seq(header)
+    let bumped = publish::bump_checkpoint_seq(*header);
+    *header = bumped.header;
+    bumped.value
 }
 
-// Raises the checkpoint epoch; value is the old one.
+// Raises the checkpoint epoch; the answer is the old one.
 #[no_mangle]
-pub extern "C" fn wal_bump_checkpoint_epoch(header: Header) -> Bumped
-    ensures { λ r. ⌜ HeaderCall bump-checkpoint-epoch header (value (r .value)) (r .header) ⌝ }
+pub extern "C" fn wal_bump_checkpoint_epoch(header: &mut Header) -> u32
+    ensures { λ r. ⌜ HeaderCall bump-checkpoint-epoch (now (header .entry)) (value r) (now (header .exit)) ⌝ }
 {
-    publish::bump_checkpoint_epoch(header)
-}
-
-// A lock mode read from its number.
-pub enum Mode {
-    Given(SharedWalOwnershipMode),
-    Unknown,
-}
-
-// 0 is LinuxOfd and 1 ProcessScopedFcntl.
-pub fn mode_of(mode: u32) -> Mode
-    ensures { λ r. ⌜ r ≡ mode-given mode ⌝ }
-{
-    if mode == 0 {
-        return Mode::Given(SharedWalOwnershipMode::LinuxOfd);
-    }
-    if mode == 1 {
-        return Mode::Given(SharedWalOwnershipMode::ProcessScopedFcntl);
-    }
-    Mode::Unknown
-}
-
-fn acquired(answer: Acquire, header: Header, local_owner: u64) -> LockReply
-    ensures { λ r. ⌜ r ≡ acquire-reply answer header «local_owner» ⌝ }
-{
-    match answer {
-        Acquire::Taken(next, owner) => LockReply {
-            refusal: 0,
-            answer: 1,
-            header: next,
-            local_owner: owner.0,
-        },
-        Acquire::Busy => LockReply {
-            refusal: 0,
-            answer: 0,
-            header: header,
-            local_owner: local_owner,
-        },
-        Acquire::Refused(number) => LockReply {
-            refusal: number,
-            answer: 0,
-            header: header,
-            local_owner: local_owner,
-        },
-    }
-}
-
-fn released(answer: Release, header: Header, local_owner: u64) -> LockReply
-    ensures { λ r. ⌜ r ≡ release-reply answer header «local_owner» ⌝ }
-{
-    match answer {
-        Release::Released(next, owner) => LockReply {
-            refusal: 0,
-            answer: 1,
-            header: next,
-            local_owner: owner.0,
-        },
-        Release::Refused(number) => LockReply {
-            refusal: number,
-            answer: 0,
-            header: header,
-            local_owner: local_owner,
-        },
-    }
+    let bumped = publish::bump_checkpoint_epoch(*header);
+    *header = bumped.header;
+    bumped.value
 }
 
 // Attempts to take the writer lock. card is the byte lock's answer: 0 busy, 1 granted, 2 error.
 #[no_mangle]
 pub extern "C" fn wal_try_acquire_writer(
-    header: Header,
+    header: &mut Header,
     local_owner: u64,
     owner: u64,
     card: u8,
 ) -> LockReply
-    ensures { λ r. ⌜ LockReplied Writer (try-acquire Writer owner card) header «local_owner» r ⌝ }
+    ensures { λ r. ⌜ LockReplied Writer (try-acquire Writer owner card) (now (header .entry)) «local_owner» (now (header .exit)) r ⌝ }
 {
-    let answer = locks::try_acquire_writer(
-        header,
-        SharedOwnerRecord(local_owner),
-        SharedOwnerRecord(owner),
-        card,
-    );
-    acquired(answer, header, local_owner)
+    let left = lock_reply::try_acquire_writer(*header, local_owner, owner, card);
+    *header = left.header;
+    left.reply
 }
 
-// Releases the writer lock.
+// Releases the writer lock. mode: 0 is LinuxOfd and 1 ProcessScopedFcntl.
 #[no_mangle]
 pub extern "C" fn wal_release_writer(
     mode: u32,
-    header: Header,
+    header: &mut Header,
     local_owner: u64,
     owner: u64,
 ) -> LockReply
-    ensures { λ r. ⌜ LockReplied Writer (with-mode (mode-given mode) (λ given. release Writer given owner)) header «local_owner» r ⌝ }
+    ensures { λ r. ⌜ LockReplied Writer (with-mode (mode-given mode) (λ given. release Writer given owner)) (now (header .entry)) «local_owner» (now (header .exit)) r ⌝ }
 {
-    let Mode::Given(given) = mode_of(mode) else {
-        return released(Release::Refused(1), header, local_owner);
-    };
-    let answer = locks::release_writer(
-        given,
-        header,
-        SharedOwnerRecord(local_owner),
-        SharedOwnerRecord(owner),
-    );
-    released(answer, header, local_owner)
+    let left = lock_reply::release_writer(mode, *header, local_owner, owner);
+    *header = left.header;
+    left.reply
 }
 
 // Attempts to take the checkpoint lock. card is the byte lock's answer: 0 busy, 1 granted, 2 error.
 #[no_mangle]
 pub extern "C" fn wal_try_acquire_checkpoint(
-    header: Header,
+    header: &mut Header,
     local_owner: u64,
     owner: u64,
     card: u8,
 ) -> LockReply
-    ensures { λ r. ⌜ LockReplied Checkpoint (try-acquire Checkpoint owner card) header «local_owner» r ⌝ }
+    ensures { λ r. ⌜ LockReplied Checkpoint (try-acquire Checkpoint owner card) (now (header .entry)) «local_owner» (now (header .exit)) r ⌝ }
 {
-    let answer = locks::try_acquire_checkpoint(
-        header,
-        SharedOwnerRecord(local_owner),
-        SharedOwnerRecord(owner),
-        card,
-    );
-    acquired(answer, header, local_owner)
+    let left = lock_reply::try_acquire_checkpoint(*header, local_owner, owner, card);
+    *header = left.header;
+    left.reply
 }
 
-// Releases the checkpoint lock.
+// Releases the checkpoint lock. mode: 0 is LinuxOfd and 1 ProcessScopedFcntl.
 #[no_mangle]
 pub extern "C" fn wal_release_checkpoint(
     mode: u32,
-    header: Header,
+    header: &mut Header,
     local_owner: u64,
     owner: u64,
 ) -> LockReply
-    ensures { λ r. ⌜ LockReplied Checkpoint (with-mode (mode-given mode) (λ given. release Checkpoint given owner)) header «local_owner» r ⌝ }
+    ensures { λ r. ⌜ LockReplied Checkpoint (with-mode (mode-given mode) (λ given. release Checkpoint given owner)) (now (header .entry)) «local_owner» (now (header .exit)) r ⌝ }
 {
-    let Mode::Given(given) = mode_of(mode) else {
-        return released(Release::Refused(1), header, local_owner);
-    };
-    let answer = locks::release_checkpoint(
-        given,
-        header,
-        SharedOwnerRecord(local_owner),
-        SharedOwnerRecord(owner),
-    );
-    released(answer, header, local_owner)
+    let left = lock_reply::release_checkpoint(mode, *header, local_owner, owner);
+    *header = left.header;
+    left.reply
 }

@@ -3,3 +3,4 @@
 // that nothing else uses during the call, and one call is made at a time.
 pub mod header_calls;
 pub mod index_calls;
+pub mod lock_reply;

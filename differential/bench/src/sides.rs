@@ -134,19 +134,17 @@ impl Side for Port {
     #[inline]
     fn acquire_and_release(&mut self, owner: u64) -> bool {
         let header: &mut Header = &mut self.memory.header;
-        let reply = unsafe { wal_try_acquire_writer(*header, self.local_writer, owner, 1) };
-        (*header, self.local_writer) = (reply.header, reply.local_owner);
+        let reply = unsafe { wal_try_acquire_writer(header, self.local_writer, owner, 1) };
+        self.local_writer = reply.local_owner;
         let got = reply.answer == 1;
-        let reply = unsafe { wal_release_writer(SETTINGS.mode, *header, self.local_writer, owner) };
-        (*header, self.local_writer) = (reply.header, reply.local_owner);
+        let reply = unsafe { wal_release_writer(SETTINGS.mode, header, self.local_writer, owner) };
+        self.local_writer = reply.local_owner;
         got
     }
 
     #[inline]
     fn bump(&mut self) -> u32 {
-        let reply = unsafe { wal_bump_checkpoint_seq(self.memory.header) };
-        self.memory.header = reply.header;
-        reply.value
+        unsafe { wal_bump_checkpoint_seq(&mut self.memory.header) }
     }
 }
 

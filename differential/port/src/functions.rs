@@ -3,16 +3,9 @@
 use calls::memory::{Header, Record};
 
 #[repr(C)]
-pub struct Bumped {
-    pub header: Header,
-    pub value: u32,
-}
-
-#[repr(C)]
 pub struct LockReply {
     pub refusal: u32,
     pub answer: u32,
-    pub header: Header,
     pub local_owner: u64,
 }
 
@@ -49,13 +42,13 @@ extern "C" {
         checksum_2: u32,
         transaction_count: u64,
     );
-    pub fn wal_publish_backfill(header: Header, nbackfills: u64) -> Header;
-    pub fn wal_bump_checkpoint_seq(header: Header) -> Bumped;
-    pub fn wal_bump_checkpoint_epoch(header: Header) -> Bumped;
-    pub fn wal_try_acquire_writer(header: Header, local_owner: u64, owner: u64, card: u8) -> LockReply;
-    pub fn wal_try_acquire_checkpoint(header: Header, local_owner: u64, owner: u64, card: u8) -> LockReply;
-    pub fn wal_release_writer(mode: u32, header: Header, local_owner: u64, owner: u64) -> LockReply;
-    pub fn wal_release_checkpoint(mode: u32, header: Header, local_owner: u64, owner: u64) -> LockReply;
+    pub fn wal_publish_backfill(header: *mut Header, nbackfills: u64);
+    pub fn wal_bump_checkpoint_seq(header: *mut Header) -> u32;
+    pub fn wal_bump_checkpoint_epoch(header: *mut Header) -> u32;
+    pub fn wal_try_acquire_writer(header: *mut Header, local_owner: u64, owner: u64, card: u8) -> LockReply;
+    pub fn wal_try_acquire_checkpoint(header: *mut Header, local_owner: u64, owner: u64, card: u8) -> LockReply;
+    pub fn wal_release_writer(mode: u32, header: *mut Header, local_owner: u64, owner: u64) -> LockReply;
+    pub fn wal_release_checkpoint(mode: u32, header: *mut Header, local_owner: u64, owner: u64) -> LockReply;
     pub fn wal_record_frame(
         capacity: u32,
         max_blocks: u32,

@@ -143,47 +143,43 @@ impl Port for Library {
     }
 
     fn publish_backfill(&self, g: Given, nbackfills: u64) -> Option<Answer> {
-        g.memory.header = unsafe { wal_publish_backfill(g.memory.header, nbackfills) };
+        unsafe { wal_publish_backfill(&mut g.memory.header, nbackfills) };
         Some(Answer::Done)
     }
 
     fn bump_checkpoint_seq(&self, g: Given) -> Option<Answer> {
-        let bumped = unsafe { wal_bump_checkpoint_seq(g.memory.header) };
-        g.memory.header = bumped.header;
-        Some(Answer::Seq(bumped.value))
+        Some(Answer::Seq(unsafe { wal_bump_checkpoint_seq(&mut g.memory.header) }))
     }
 
     fn bump_checkpoint_epoch(&self, g: Given) -> Option<Answer> {
-        let bumped = unsafe { wal_bump_checkpoint_epoch(g.memory.header) };
-        g.memory.header = bumped.header;
-        Some(Answer::Epoch(bumped.value))
+        Some(Answer::Epoch(unsafe { wal_bump_checkpoint_epoch(&mut g.memory.header) }))
     }
 
     fn try_acquire_writer(&self, g: Given, owner: u64, byte: u8) -> Option<Answer> {
         let cell = &mut g.memory.processes[g.process].local_writer;
-        let reply = unsafe { wal_try_acquire_writer(g.memory.header, *cell, owner, byte) };
-        (g.memory.header, *cell) = (reply.header, reply.local_owner);
+        let reply = unsafe { wal_try_acquire_writer(&mut g.memory.header, *cell, owner, byte) };
+        *cell = reply.local_owner;
         Some(answer(reply.refusal, reply.answer, acquired))
     }
 
     fn try_acquire_checkpoint(&self, g: Given, owner: u64, byte: u8) -> Option<Answer> {
         let cell = &mut g.memory.processes[g.process].local_checkpoint;
-        let reply = unsafe { wal_try_acquire_checkpoint(g.memory.header, *cell, owner, byte) };
-        (g.memory.header, *cell) = (reply.header, reply.local_owner);
+        let reply = unsafe { wal_try_acquire_checkpoint(&mut g.memory.header, *cell, owner, byte) };
+        *cell = reply.local_owner;
         Some(answer(reply.refusal, reply.answer, acquired))
     }
 
     fn release_writer(&self, g: Given, owner: u64) -> Option<Answer> {
         let cell = &mut g.memory.processes[g.process].local_writer;
-        let reply = unsafe { wal_release_writer(g.settings.mode, g.memory.header, *cell, owner) };
-        (g.memory.header, *cell) = (reply.header, reply.local_owner);
+        let reply = unsafe { wal_release_writer(g.settings.mode, &mut g.memory.header, *cell, owner) };
+        *cell = reply.local_owner;
         Some(answer(reply.refusal, reply.answer, released))
     }
 
     fn release_checkpoint(&self, g: Given, owner: u64) -> Option<Answer> {
         let cell = &mut g.memory.processes[g.process].local_checkpoint;
-        let reply = unsafe { wal_release_checkpoint(g.settings.mode, g.memory.header, *cell, owner) };
-        (g.memory.header, *cell) = (reply.header, reply.local_owner);
+        let reply = unsafe { wal_release_checkpoint(g.settings.mode, &mut g.memory.header, *cell, owner) };
+        *cell = reply.local_owner;
         Some(answer(reply.refusal, reply.answer, released))
     }
 

@@ -1,48 +1,28 @@
-use mathlib.Core.Path.{sym, _∙_}
-use Rattle.wal_coordination.proofs.Replies.{unknown-told, given-told}
-use native.Mathlib.Omega.{arith}
-use borrow.Author.Needs.{needs}
-use Rattle.wal_coordination.proofs.header_calls.wal_release_checkpoint.Statement.{statement}
-use Rattle.wal_coordination.proofs.header_calls.wal_release_checkpoint.Tie as tie
-use Rattle.wal_coordination.proofs.header_calls.wal_release_checkpoint.Reads as reads
-use Rattle.wal_coordination.proofs.header_calls.wal_release_checkpoint.Lts as lts
-use Rattle.header.proofs.locks.release_checkpoint.Reads as release-checkpoint-reads
-use Rattle.wal_coordination.proofs.header_calls.mode_of.Reads as mode-of-reads
-use Rattle.wal_coordination.proofs.header_calls.released.Reads as released-reads
+-- `wal_coordination::header_calls::wal_release_checkpoint` meets its contract: the walk of `Releases` over its core. Assumes nothing.
+use Prim.Native.Nat.{ℕ}
+use contract.Running.{givenOf, tables, tablesOf}
+use denote.Triple.Spec.{tripleOf}
+use denote.Triple.Table.{entered, cited}
+use Rattle.wal_types.specs.declared.Header.{Header}
+use Rattle.header.specs.declared.locks.Lock.the-variants.{Checkpoint}
+use Rattle.header.specs.Locks.{release}
+use Rattle.wal_coordination.specs.declared.lock_reply.LockReply.{LockReply}
+use Rattle.wal_coordination.specs.LockReply.{mode-given, with-mode, LockReplied}
+use Rattle.wal_coordination.proofs.Releases.{Core, entry-meets}
+use Rattle.wal_coordination.proofs.lock_reply.release_checkpoint.Symbol as core
+use Rattle.wal_coordination.proofs.lock_reply.release_checkpoint.Met as core-thm
+use Rattle.wal_coordination.proofs.header_calls.wal_release_checkpoint.Key as key
+use Rattle.wal_coordination.proofs.header_calls.wal_release_checkpoint as entry
+use Rattle.wal_coordination.proofs.header_calls.wal_release_checkpoint.Statement as stated
+use Rattle.wal_coordination.proofs.header_calls.wal_release_checkpoint.Code as code
 
-mode-of-requires : tie.Need-mode-of-requires
-mode-of-requires c κs = search needs
+abbrev Promised : ℕ → Header → ℕ → ℕ → Header → LockReply → Type 0
+Promised mode h local owner h′ r = LockReplied Checkpoint (with-mode (mode-given mode) (λ given. release Checkpoint given owner)) h local h′ r
 
-enum-known-given : tie.Need-enum-known-given
-enum-known-given c = search needs
-
-enum-told : tie.Need-enum-told
-enum-told c = search needs
-
-released-requires : tie.Need-released-requires
-released-requires c κs = search needs
-
-returns : tie.Need-returns
-returns c = rw (c .released .ensures) (unknown-told _ _ _ _ _ (sym (c .before .before .before .mode-of .ensures) ∙ c .before .enum-told .given .1))
-
-release-checkpoint-requires : tie.Need-release-checkpoint-requires
-release-checkpoint-requires c κs = search needs
-
-released-requires-2 : tie.Need-released-requires-2
-released-requires-2 c κs = search needs
-
-returns-2 : tie.Need-returns-2
-returns-2 c = rw (c .released2 .ensures) (given-told _ _ _ _ _ _ (c .before .release-checkpoint .result) (sym (c .before .before .before .before .before .mode-of .ensures) ∙ c .before .before .before .given .given .1) (c .before .release-checkpoint .ensures))
-
-pub wal-release-checkpoint-spec : {M : Type 1} → statement M
-wal-release-checkpoint-spec =
-    tie.close
-    (tie.spec
-    mode-of-requires
-    enum-known-given
-    enum-told
-    released-requires
-    returns
-    release-checkpoint-requires
-    released-requires-2
-    returns-2)
+pub wal-release-checkpoint-spec : {M : Type 1} → stated.statement M
+unfolding code.routine tablesOf
+wal-release-checkpoint-spec 𝓤 H 𝓜 𝓖 𝓡 =
+    entered 𝓤 H (tripleOf 𝓤 H (𝓖 .A) entry.signature (entry.spec 𝓤 H (𝓖 .A) (𝓜 .mem) (𝓡 .run)))
+    (tables 𝓤 H 𝓜 𝓡 code.env .C) (tables 𝓤 H 𝓜 𝓡 code.env .Λ) key.name code.function (code.unfolded 𝓤 H 𝓜 𝓡)
+    (entry-meets Promised core.name 𝓤 H (𝓖 .A) (givenOf 𝓤 H 𝓜 𝓖) (tablesOf 𝓤 H 𝓜 (tables 𝓤 H 𝓜 𝓡 code.env))
+    (cited 𝓤 H (Core Promised 𝓤 H (𝓖 .A)) 𝓜 𝓡 code.env core.name core.routine code.calls-wal-coordination·lock-reply·release-checkpoint (core-thm.met 𝓤 H 𝓜 𝓖 𝓡)))

@@ -1,26 +1,28 @@
+-- `wal_coordination::header_calls::wal_try_acquire_checkpoint` meets its contract: the walk of `Acquires` over its core. Assumes nothing.
+use Prim.Native.Nat.{ℕ}
+use contract.Running.{givenOf, tables, tablesOf}
+use denote.Triple.Spec.{tripleOf}
+use denote.Triple.Table.{entered, cited}
+use Rattle.wal_types.specs.declared.Header.{Header}
 use Rattle.header.specs.declared.locks.Lock.the-variants.{Checkpoint}
 use Rattle.header.specs.Locks.{try-acquire}
-use Rattle.wal_coordination.proofs.Replies.{acquire-told}
-use native.Mathlib.Omega.{arith}
-use borrow.Author.Needs.{needs}
-use Rattle.wal_coordination.proofs.header_calls.wal_try_acquire_checkpoint.Statement.{statement}
-use Rattle.wal_coordination.proofs.header_calls.wal_try_acquire_checkpoint.Tie as tie
-use Rattle.wal_coordination.proofs.header_calls.wal_try_acquire_checkpoint.Reads as reads
-use Rattle.wal_coordination.proofs.header_calls.wal_try_acquire_checkpoint.Lts as lts
-use Rattle.header.proofs.locks.try_acquire_checkpoint.Reads as try-acquire-checkpoint-reads
-use Rattle.wal_coordination.proofs.header_calls.acquired.Reads as acquired-reads
+use Rattle.wal_coordination.specs.declared.lock_reply.LockReply.{LockReply}
+use Rattle.wal_coordination.specs.LockReply.{LockReplied}
+use Rattle.wal_coordination.proofs.Acquires.{Core, entry-meets}
+use Rattle.wal_coordination.proofs.lock_reply.try_acquire_checkpoint.Symbol as core
+use Rattle.wal_coordination.proofs.lock_reply.try_acquire_checkpoint.Met as core-thm
+use Rattle.wal_coordination.proofs.header_calls.wal_try_acquire_checkpoint.Key as key
+use Rattle.wal_coordination.proofs.header_calls.wal_try_acquire_checkpoint as entry
+use Rattle.wal_coordination.proofs.header_calls.wal_try_acquire_checkpoint.Statement as stated
+use Rattle.wal_coordination.proofs.header_calls.wal_try_acquire_checkpoint.Code as code
 
-try-acquire-checkpoint-requires : tie.Need-try-acquire-checkpoint-requires
-try-acquire-checkpoint-requires c κs = search needs
+abbrev Promised : Header → ℕ → ℕ → ℕ → Header → LockReply → Type 0
+Promised h local owner card h′ r = LockReplied Checkpoint (try-acquire Checkpoint owner card) h local h′ r
 
-acquired-requires : tie.Need-acquired-requires
-acquired-requires c κs = search needs
-
-returns : tie.Need-returns
-returns c =
-    let a = c .before .before .args in
-    rw (c .acquired .ensures) (acquire-told Checkpoint (try-acquire Checkpoint (a .owner) (a .card)) _ _ (c .before .try-acquire-checkpoint .result) (c .before .try-acquire-checkpoint .ensures))
-
-pub wal-try-acquire-checkpoint-spec : {M : Type 1} → statement M
-wal-try-acquire-checkpoint-spec =
-    tie.close (tie.spec try-acquire-checkpoint-requires acquired-requires returns)
+pub wal-try-acquire-checkpoint-spec : {M : Type 1} → stated.statement M
+unfolding code.routine tablesOf
+wal-try-acquire-checkpoint-spec 𝓤 H 𝓜 𝓖 𝓡 =
+    entered 𝓤 H (tripleOf 𝓤 H (𝓖 .A) entry.signature (entry.spec 𝓤 H (𝓖 .A) (𝓜 .mem) (𝓡 .run)))
+    (tables 𝓤 H 𝓜 𝓡 code.env .C) (tables 𝓤 H 𝓜 𝓡 code.env .Λ) key.name code.function (code.unfolded 𝓤 H 𝓜 𝓡)
+    (entry-meets Promised core.name 𝓤 H (𝓖 .A) (givenOf 𝓤 H 𝓜 𝓖) (tablesOf 𝓤 H 𝓜 (tables 𝓤 H 𝓜 𝓡 code.env))
+    (cited 𝓤 H (Core Promised 𝓤 H (𝓖 .A)) 𝓜 𝓡 code.env core.name core.routine code.calls-wal-coordination·lock-reply·try-acquire-checkpoint (core-thm.met 𝓤 H 𝓜 𝓖 𝓡)))

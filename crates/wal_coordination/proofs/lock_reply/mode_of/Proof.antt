@@ -2,10 +2,10 @@ use borrow.Author.Tests.{eq-eqb, ne-eqb}
 use Rattle.wal_coordination.specs.LockReply.{mode-given}
 use native.Mathlib.Omega.{arith}
 use borrow.Author.Needs.{needs}
-use Rattle.wal_coordination.proofs.header_calls.mode_of.Statement.{statement}
-use Rattle.wal_coordination.proofs.header_calls.mode_of.Tie as tie
-use Rattle.wal_coordination.proofs.header_calls.mode_of.Reads as reads
-use Rattle.wal_coordination.proofs.header_calls.mode_of.Lts as lts
+use Rattle.wal_coordination.proofs.lock_reply.mode_of.Statement.{statement}
+use Rattle.wal_coordination.proofs.lock_reply.mode_of.Tie as tie
+use Rattle.wal_coordination.proofs.lock_reply.mode_of.Reads as reads
+use Rattle.wal_coordination.proofs.lock_reply.mode_of.Lts as lts
 
 returns : tie.Need-returns
 unfolding mode-given
