@@ -5,3 +5,4 @@ mod Releases
 mod Touched
 mod Replies
 mod IndexReplies
+mod ReaderReplies

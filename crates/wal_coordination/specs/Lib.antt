@@ -2,3 +2,4 @@
 pub mod Reply
 pub mod LockReply
 pub mod IndexReply
+pub mod ReaderReply

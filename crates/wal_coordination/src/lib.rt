@@ -4,3 +4,4 @@
 pub mod header_calls;
 pub mod index_calls;
 pub mod lock_reply;
+pub mod reader_calls;

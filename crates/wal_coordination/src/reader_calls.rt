@@ -1,0 +1,225 @@
+// The calls on reader slots and shared marks.
+use crate::header_calls;
+use crate::header_calls::Mode;
+use readers::floor;
+use readers::floor::DbFileReader;
+use readers::floor::MinFrame;
+use readers::register;
+use readers::register::Register;
+use wal_types::SharedOwnerRecord;
+use wal_types::SharedWalOwnershipMode;
+ghost use mathlib.Core.Path.{_≡_};
+ghost use Rattle.wal_types.specs.Call.{slot-taken};
+ghost use Rattle.readers.specs.Register.{register-reader, register-answer};
+ghost use Rattle.readers.specs.Floor.{min-active-reader-frame, has-active-db-file-reader, min-frame-answer, db-file-answer};
+ghost use Rattle.wal_coordination.specs.LockReply.{mode-given, with-mode};
+ghost use Rattle.wal_coordination.specs.ReaderReply.{settings-given, no-slot, reader-reply, no-floor, floor-reply, db-file-reply, SlotsReplied};
+
+// The answer of a registration or a move in numbers. refusal: 0, or the number of the refusal. taken: 1 if a slot is held,
+// and then slot, owner and mark are its number, its owner and its mark; else 0, and they are 0.
+#[repr(C)]
+pub struct ReaderReply {
+    pub refusal: u32,
+    pub taken: u32,
+    pub slot: u64,
+    pub owner: u64,
+    pub mark: u64,
+}
+
+// The answer of the floor in numbers. found: 1 if there is a floor, and then mark is it; else 0.
+#[repr(C)]
+pub struct FloorReply {
+    pub refusal: u32,
+    pub found: u32,
+    pub mark: u64,
+}
+
+// active: 1 if some reader reads only the database file.
+#[repr(C)]
+pub struct DbFileReply {
+    pub refusal: u32,
+    pub active: u32,
+}
+
+// The number of slots and the lock mode.
+pub struct Settings {
+    pub n: usize,
+    pub mode: SharedWalOwnershipMode,
+}
+
+// The settings of two numbers. Where mode is no lock mode's number there are 0 slots, and every call is refused with 1.
+fn settings_of(n: usize, mode: u32) -> Settings
+    ensures { λ r. ⌜ r ≡ settings-given (mode-given mode) n ⌝ }
+{
+    let Mode::Given(given) = header_calls::mode_of(mode) else {
+        return Settings {
+            n: 0,
+            mode: SharedWalOwnershipMode::LinuxOfd,
+        };
+    };
+    Settings { n: n, mode: given }
+}
+
+fn with_slot(slot: u64, owner: u64, mark: u64) -> ReaderReply
+    ensures { λ r. ⌜ r ≡ reader-reply (slot-taken slot owner mark) ⌝ }
+{
+    ReaderReply {
+        refusal: 0,
+        taken: 1,
+        slot: slot,
+        owner: owner,
+        mark: mark,
+    }
+}
+
+// refusal is 0 where there is none.
+fn without_slot(refusal: u32) -> ReaderReply
+    ensures { λ r. ⌜ r ≡ no-slot refusal ⌝ }
+{
+    ReaderReply {
+        refusal: refusal,
+        taken: 0,
+        slot: 0,
+        owner: 0,
+        mark: 0,
+    }
+}
+
+fn register_told(answer: Register, owner: u64, mark: u64) -> ReaderReply
+    ensures { λ r. ⌜ r ≡ reader-reply (register-answer owner mark answer) ⌝ }
+{
+    match answer {
+        Register::Taken(slot) => with_slot(slot as u64, owner, mark),
+        Register::NoSlot => without_slot(0),
+        Register::Refused(number) => without_slot(number),
+    }
+}
+
+// refusal is 0 where there is none.
+fn without_floor(refusal: u32) -> FloorReply
+    ensures { λ r. ⌜ r ≡ no-floor refusal ⌝ }
+{
+    FloorReply {
+        refusal: refusal,
+        found: 0,
+        mark: 0,
+    }
+}
+
+fn floor_told(answer: MinFrame) -> FloorReply
+    ensures { λ r. ⌜ r ≡ floor-reply (min-frame-answer answer) ⌝ }
+{
+    match answer {
+        MinFrame::Floor(mark) => FloorReply {
+            refusal: 0,
+            found: 1,
+            mark: mark,
+        },
+        MinFrame::NoFloor => without_floor(0),
+        MinFrame::Refused(number) => without_floor(number),
+    }
+}
+
+fn db_file_told(answer: DbFileReader) -> DbFileReply
+    ensures { λ r. ⌜ r ≡ db-file-reply (db-file-answer answer) ⌝ }
+{
+    match answer {
+        DbFileReader::Active => DbFileReply {
+            refusal: 0,
+            active: 1,
+        },
+        DbFileReader::NoneActive => DbFileReply {
+            refusal: 0,
+            active: 0,
+        },
+        DbFileReader::Refused(number) => DbFileReply {
+            refusal: number,
+            active: 0,
+        },
+    }
+}
+
+// Takes a reader slot at a mark. card is the byte locks' answers, one for each slot: 0 busy, 1 granted, 2 error.
+#[no_mangle]
+pub extern "C" fn wal_register_reader(
+    n: usize,
+    mode: u32,
+    bitmap: &mut [u64],
+    reader_frames: &mut [u64],
+    reader_owners: &mut [u64],
+    local_readers: &mut [u64],
+    card: &[u8],
+    owner: u64,
+    mark: u64,
+) -> ReaderReply
+    ensures { λ r. ⌜ SlotsReplied reader-reply (with-mode (mode-given mode) (λ given. register-reader n given owner mark (now (card .entry)))) (now (bitmap .entry)) (now («reader_frames» .entry)) (now («reader_owners» .entry)) (now («local_readers» .entry)) r (now (bitmap .exit)) (now («reader_frames» .exit)) (now («reader_owners» .exit)) (now («local_readers» .exit)) ⌝ }
+{
+    let given = settings_of(n, mode);
+    let lock_mode = given.mode;
+    let answer = register::register_reader(
+        given.n,
+        lock_mode,
+        bitmap,
+        reader_frames,
+        reader_owners,
+        local_readers,
+        card,
+        SharedOwnerRecord(owner),
+        mark,
+    );
+    register_told(answer, owner, mark)
+}
+
+// The least mark above 0 of all live readers. card is as in wal_register_reader.
+#[no_mangle]
+pub extern "C" fn wal_min_active_reader_frame(
+    n: usize,
+    mode: u32,
+    bitmap: &mut [u64],
+    reader_frames: &mut [u64],
+    reader_owners: &mut [u64],
+    local_readers: &[u64],
+    card: &[u8],
+) -> FloorReply
+    ensures { λ r. ⌜ SlotsReplied floor-reply (with-mode (mode-given mode) (λ given. min-active-reader-frame n given (now (card .entry)))) (now (bitmap .entry)) (now («reader_frames» .entry)) (now («reader_owners» .entry)) (now («local_readers» .entry)) r (now (bitmap .exit)) (now («reader_frames» .exit)) (now («reader_owners» .exit)) (now («local_readers» .entry)) ⌝ }
+{
+    let given = settings_of(n, mode);
+    let lock_mode = given.mode;
+    let answer = floor::min_active_reader_frame(
+        given.n,
+        lock_mode,
+        bitmap,
+        reader_frames,
+        reader_owners,
+        local_readers,
+        card,
+    );
+    floor_told(answer)
+}
+
+// Whether a reader in any process reads only the database file. card is as in wal_register_reader.
+#[no_mangle]
+pub extern "C" fn wal_has_active_db_file_reader(
+    n: usize,
+    mode: u32,
+    bitmap: &mut [u64],
+    reader_frames: &mut [u64],
+    reader_owners: &mut [u64],
+    local_readers: &[u64],
+    card: &[u8],
+) -> DbFileReply
+    ensures { λ r. ⌜ SlotsReplied db-file-reply (with-mode (mode-given mode) (λ given. has-active-db-file-reader n given (now (card .entry)))) (now (bitmap .entry)) (now («reader_frames» .entry)) (now («reader_owners» .entry)) (now («local_readers» .entry)) r (now (bitmap .exit)) (now («reader_frames» .exit)) (now («reader_owners» .exit)) (now («local_readers» .entry)) ⌝ }
+{
+    let given = settings_of(n, mode);
+    let lock_mode = given.mode;
+    let answer = floor::has_active_db_file_reader(
+        given.n,
+        lock_mode,
+        bitmap,
+        reader_frames,
+        reader_owners,
+        local_readers,
+        card,
+    );
+    db_file_told(answer)
+}
