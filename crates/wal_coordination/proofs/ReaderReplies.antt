@@ -2,17 +2,21 @@
 use mathlib.Core.Path.{_≡_, refl, _∙_}
 use mathlib.Core.List.{List}
 use Prim.Native.Nat.{ℕ}
+use Rattle.wal_types.specs.declared.SharedReadMark.{SharedReadMark}
 use Rattle.wal_types.specs.declared.SharedWalOwnershipMode.{SharedWalOwnershipMode}
 use Rattle.wal_types.specs.Memory.{Memory, Process}
 use Rattle.wal_types.specs.Call.{Call, Answer, Done, refusal, after, done}
 use Rattle.readers.specs.Slots.{ReaderCall}
 use Rattle.readers.specs.Register.{register-reader}
+use Rattle.readers.specs.Update.{unregister-reader}
 use Rattle.readers.specs.Floor.{min-active-reader-frame, has-active-db-file-reader}
+use Rattle.shared_marks.specs.Shared.{register-reader-for-snapshot, unregister-reader-for-snapshot, SharedCall}
+use Rattle.shared_marks.specs.Direct.{DirectMove}
 use Rattle.wal_coordination.specs.declared.header_calls.Mode.{Mode}
 use Rattle.wal_coordination.specs.declared.header_calls.Mode.the-variants.{Given, Unknown}
 use Rattle.wal_coordination.specs.declared.reader_calls.Settings.{Settings}
 use Rattle.wal_coordination.specs.LockReply.{mode-given, with-mode}
-use Rattle.wal_coordination.specs.ReaderReply.{settings-given, Told, SlotsReplied}
+use Rattle.wal_coordination.specs.ReaderReply.{settings-given, Told, SlotsReplied, RegistryReplied, MoveReplied}
 
 -- Of 0 slots the call is refused with 1.
 abbrev pub NeedsSlots : (ℕ → SharedWalOwnershipMode → Call) → Type 0
@@ -30,6 +34,18 @@ pub db-file-needs-slots : (bytes : List ℕ) → NeedsSlots (λ n mode. has-acti
 unfolding has-active-db-file-reader
 db-file-needs-slots bytes mode m p = refl
 
+pub release-needs-slots : (slot owner : ℕ) → NeedsSlots (λ n mode. unregister-reader n mode slot owner)
+unfolding unregister-reader
+release-needs-slots slot owner mode m p = refl
+
+pub share-needs-slots : (owner mark : ℕ) (bytes : List ℕ) → NeedsSlots (λ n mode. register-reader-for-snapshot n mode owner mark bytes)
+unfolding register-reader-for-snapshot
+share-needs-slots owner mark bytes mode m p = refl
+
+pub unshare-needs-slots : (mark slot owner : ℕ) → NeedsSlots (λ n mode. unregister-reader-for-snapshot n mode mark slot owner)
+unfolding unregister-reader-for-snapshot
+unshare-needs-slots mark slot owner mode m p = refl
+
 -- A reply tells an answer of the outcome that has it.
 pub told-by : {R : Type 0} (reply-of : Answer → R) (r : R) (a : Answer) (m : Memory) (p : Process) (d : Done) → r ≡ reply-of a → d ≡ done a m p → Told reply-of r m p d
 told-by reply-of r a m p d er ed = rw ed (record { reply-told = er; memory-left = refl; process-left = refl })
@@ -46,3 +62,9 @@ module _ {R : Type 0} (reply-of : Answer → R) (call : ℕ → SharedWalOwnersh
 
     pub slots-told : (b f o l b′ f′ o′ l′ : List ℕ) → ReaderCall (call (s .n) (s .mode)) b f o l a b′ f′ o′ l′ → SlotsReplied reply-of (with-mode (mode-given mode) (call n)) b f o l r b′ f′ o′ l′
     slots-told b f o l b′ f′ o′ l′ e z p = told-of _ _ _ _ (e z p)
+
+    pub registry-told : (b f o l : List ℕ) (g : List SharedReadMark) (b′ f′ o′ l′ : List ℕ) (g′ : List SharedReadMark) → SharedCall (call (s .n) (s .mode)) b f o l g a b′ f′ o′ l′ g′ → RegistryReplied reply-of (with-mode (mode-given mode) (call n)) b f o l g r b′ f′ o′ l′ g′
+    registry-told b f o l g b′ f′ o′ l′ g′ e z p = told-of _ _ _ _ (e z p)
+
+pub move-told : {R : Type 0} (reply-of : Answer → R) (call : Call) (f o : List ℕ) (g : List SharedReadMark) (a : Answer) (r : R) → r ≡ reply-of a → (f′ : List ℕ) → DirectMove call f o g a f′ → MoveReplied reply-of call f o g r f′
+move-told reply-of call f o g a r told f′ e z p = told-by reply-of r a _ _ _ told (e z p)

@@ -6,14 +6,23 @@ use readers::floor::DbFileReader;
 use readers::floor::MinFrame;
 use readers::register;
 use readers::register::Register;
+use readers::update::Release;
+use readers::update::Update;
+use shared_marks::direct;
+use shared_marks::shared;
+use shared_marks::shared::Share;
 use wal_types::SharedOwnerRecord;
+use wal_types::SharedReadMark;
 use wal_types::SharedWalOwnershipMode;
 ghost use mathlib.Core.Path.{_≡_};
 ghost use Rattle.wal_types.specs.Call.{slot-taken};
 ghost use Rattle.readers.specs.Register.{register-reader, register-answer};
+ghost use Rattle.readers.specs.Update.{update-reader, update-answer, unregister-reader, release-answer};
 ghost use Rattle.readers.specs.Floor.{min-active-reader-frame, has-active-db-file-reader, min-frame-answer, db-file-answer};
+ghost use Rattle.shared_marks.specs.Shared.{register-reader-for-snapshot, register-db-file-reader, unregister-reader-for-snapshot, share-answer};
+ghost use Rattle.wal_coordination.specs.Reply.{refusal-number};
 ghost use Rattle.wal_coordination.specs.LockReply.{mode-given, with-mode};
-ghost use Rattle.wal_coordination.specs.ReaderReply.{settings-given, no-slot, reader-reply, no-floor, floor-reply, db-file-reply, SlotsReplied};
+ghost use Rattle.wal_coordination.specs.ReaderReply.{settings-given, no-slot, reader-reply, no-floor, floor-reply, db-file-reply, SlotsReplied, MoveReplied, RegistryReplied};
 
 // The answer of a registration or a move in numbers. refusal: 0, or the number of the refusal. taken: 1 if a slot is held,
 // and then slot, owner and mark are its number, its owner and its mark; else 0, and they are 0.
@@ -95,6 +104,35 @@ fn register_told(answer: Register, owner: u64, mark: u64) -> ReaderReply
     }
 }
 
+fn move_told(answer: Update, slot: usize, owner: u64, mark: u64) -> ReaderReply
+    ensures { λ r. ⌜ r ≡ reader-reply (update-answer slot owner mark answer) ⌝ }
+{
+    match answer {
+        Update::Moved => with_slot(slot as u64, owner, mark),
+        Update::Refused(number) => without_slot(number),
+    }
+}
+
+fn share_told(answer: Share) -> ReaderReply
+    ensures { λ r. ⌜ r ≡ reader-reply (share-answer answer) ⌝ }
+{
+    match answer {
+        Share::Taken(slot, owner, mark) => with_slot(slot as u64, owner.0, mark),
+        Share::NoSlot => without_slot(0),
+        Share::Refused(number) => without_slot(number),
+    }
+}
+
+// 0, or the number of the refusal.
+fn release_told(answer: Release) -> u32
+    ensures { λ r. ⌜ r ≡ refusal-number (release-answer answer) ⌝ }
+{
+    match answer {
+        Release::Released => 0,
+        Release::Refused(number) => number,
+    }
+}
+
 // refusal is 0 where there is none.
 fn without_floor(refusal: u32) -> FloorReply
     ensures { λ r. ⌜ r ≡ no-floor refusal ⌝ }
@@ -168,6 +206,156 @@ pub extern "C" fn wal_register_reader(
         mark,
     );
     register_told(answer, owner, mark)
+}
+
+// Moves a reader to another mark.
+#[no_mangle]
+pub extern "C" fn wal_update_reader(
+    n: usize,
+    reader_frames: &mut [u64],
+    reader_owners: &[u64],
+    registry: &[SharedReadMark],
+    slot: usize,
+    owner: u64,
+    mark: u64,
+) -> ReaderReply
+    ensures { λ r. ⌜ MoveReplied reader-reply (update-reader n slot owner mark) (now («reader_frames» .entry)) (now («reader_owners» .entry)) (now (registry .entry)) r (now («reader_frames» .exit)) ⌝ }
+{
+    let answer = direct::update_reader(
+        n,
+        reader_frames,
+        reader_owners,
+        registry,
+        slot,
+        SharedOwnerRecord(owner),
+        mark,
+    );
+    move_told(answer, slot, owner, mark)
+}
+
+// Releases a reader's slot. Answers 0, or the number of the refusal.
+#[no_mangle]
+pub extern "C" fn wal_unregister_reader(
+    n: usize,
+    mode: u32,
+    bitmap: &mut [u64],
+    reader_frames: &mut [u64],
+    reader_owners: &mut [u64],
+    local_readers: &mut [u64],
+    registry: &[SharedReadMark],
+    slot: usize,
+    owner: u64,
+) -> u32
+    ensures { λ r. ⌜ RegistryReplied refusal-number (with-mode (mode-given mode) (λ given. unregister-reader n given slot owner)) (now (bitmap .entry)) (now («reader_frames» .entry)) (now («reader_owners» .entry)) (now («local_readers» .entry)) (now (registry .entry)) r (now (bitmap .exit)) (now («reader_frames» .exit)) (now («reader_owners» .exit)) (now («local_readers» .exit)) (now (registry .entry)) ⌝ }
+{
+    let given = settings_of(n, mode);
+    let answer = direct::unregister_reader(
+        given.n,
+        given.mode,
+        bitmap,
+        reader_frames,
+        reader_owners,
+        local_readers,
+        registry,
+        slot,
+        SharedOwnerRecord(owner),
+    );
+    release_told(answer)
+}
+
+// Takes a reader slot at a mark, or joins the connections of this process that share the mark. card is as in
+// wal_register_reader.
+#[no_mangle]
+pub extern "C" fn wal_register_reader_for_snapshot(
+    n: usize,
+    mode: u32,
+    bitmap: &mut [u64],
+    reader_frames: &mut [u64],
+    reader_owners: &mut [u64],
+    local_readers: &mut [u64],
+    registry: &mut [SharedReadMark],
+    card: &[u8],
+    owner: u64,
+    mark: u64,
+) -> ReaderReply
+    ensures { λ r. ⌜ RegistryReplied reader-reply (with-mode (mode-given mode) (λ given. register-reader-for-snapshot n given owner mark (now (card .entry)))) (now (bitmap .entry)) (now («reader_frames» .entry)) (now («reader_owners» .entry)) (now («local_readers» .entry)) (now (registry .entry)) r (now (bitmap .exit)) (now («reader_frames» .exit)) (now («reader_owners» .exit)) (now («local_readers» .exit)) (now (registry .exit)) ⌝ }
+{
+    let given = settings_of(n, mode);
+    let answer = shared::register_reader_for_snapshot(
+        given.n,
+        given.mode,
+        bitmap,
+        reader_frames,
+        reader_owners,
+        local_readers,
+        registry,
+        card,
+        SharedOwnerRecord(owner),
+        mark,
+    );
+    share_told(answer)
+}
+
+// Registers a reader of the database file alone. card is as in wal_register_reader.
+#[no_mangle]
+pub extern "C" fn wal_register_db_file_reader(
+    n: usize,
+    mode: u32,
+    bitmap: &mut [u64],
+    reader_frames: &mut [u64],
+    reader_owners: &mut [u64],
+    local_readers: &mut [u64],
+    registry: &mut [SharedReadMark],
+    card: &[u8],
+    owner: u64,
+) -> ReaderReply
+    ensures { λ r. ⌜ RegistryReplied reader-reply (with-mode (mode-given mode) (λ given. register-db-file-reader n given owner (now (card .entry)))) (now (bitmap .entry)) (now («reader_frames» .entry)) (now («reader_owners» .entry)) (now («local_readers» .entry)) (now (registry .entry)) r (now (bitmap .exit)) (now («reader_frames» .exit)) (now («reader_owners» .exit)) (now («local_readers» .exit)) (now (registry .exit)) ⌝ }
+{
+    let given = settings_of(n, mode);
+    let answer = shared::register_db_file_reader(
+        given.n,
+        given.mode,
+        bitmap,
+        reader_frames,
+        reader_owners,
+        local_readers,
+        registry,
+        card,
+        SharedOwnerRecord(owner),
+    );
+    share_told(answer)
+}
+
+// Releases a shared mark: a holder less, and the last one empties the slot. Answers 0, or the number of the refusal.
+#[no_mangle]
+pub extern "C" fn wal_unregister_reader_for_snapshot(
+    n: usize,
+    mode: u32,
+    bitmap: &mut [u64],
+    reader_frames: &mut [u64],
+    reader_owners: &mut [u64],
+    local_readers: &mut [u64],
+    registry: &mut [SharedReadMark],
+    mark: u64,
+    slot: usize,
+    owner: u64,
+) -> u32
+    ensures { λ r. ⌜ RegistryReplied refusal-number (with-mode (mode-given mode) (λ given. unregister-reader-for-snapshot n given mark slot owner)) (now (bitmap .entry)) (now («reader_frames» .entry)) (now («reader_owners» .entry)) (now («local_readers» .entry)) (now (registry .entry)) r (now (bitmap .exit)) (now («reader_frames» .exit)) (now («reader_owners» .exit)) (now («local_readers» .exit)) (now (registry .exit)) ⌝ }
+{
+    let given = settings_of(n, mode);
+    let answer = shared::unregister_reader_for_snapshot(
+        given.n,
+        given.mode,
+        bitmap,
+        reader_frames,
+        reader_owners,
+        local_readers,
+        registry,
+        mark,
+        slot,
+        SharedOwnerRecord(owner),
+    );
+    release_told(answer)
 }
 
 // The least mark above 0 of all live readers. card is as in wal_register_reader.
