@@ -28,8 +28,9 @@ use Rattle.frame_list.specs.Latest.{listed-entries, pairs-of, iter-latest-frame
 use Rattle.readers.specs.Slots.{slots-in, locals-in, byte-above, in-registry, empty-slots}
 use Rattle.readers.specs.Register.{lowest-slot, register-reader}
 use Rattle.readers.specs.Update.{unregister-reader}
-use Rattle.readers.specs.Floor.{some-slot, floor-from, min-active-reader-frame}
-use Rattle.readers.specs.Limit.{copy-back-limit}
+use Rattle.readers.specs.Register.{some-slot}
+use Rattle.reader_floor.specs.Floor.{floor-from, min-active-reader-frame}
+use Rattle.reader_floor.specs.Limit.{copy-back-limit}
 use Rattle.grown_index.specs.Entries.{entries, greatest, taken-off, up-to}
 use Rattle.grown_index.specs.Grown.{LongMemory, Grown}
 use Rattle.grown_index.specs.Listed.{IsListOf}

@@ -9,11 +9,11 @@ use Rattle.wal_types.specs.Call.{Call, Answer, Done, refusal, after, done}
 use Rattle.readers.specs.Slots.{ReaderCall}
 use Rattle.readers.specs.Register.{register-reader}
 use Rattle.readers.specs.Update.{unregister-reader}
-use Rattle.readers.specs.Floor.{min-active-reader-frame, has-active-db-file-reader}
+use Rattle.reader_floor.specs.Floor.{min-active-reader-frame, has-active-db-file-reader}
 use Rattle.shared_marks.specs.Shared.{register-reader-for-snapshot, unregister-reader-for-snapshot, SharedCall}
 use Rattle.shared_marks.specs.Direct.{DirectMove}
-use Rattle.wal_coordination.specs.declared.header_calls.Mode.{Mode}
-use Rattle.wal_coordination.specs.declared.header_calls.Mode.the-variants.{Given, Unknown}
+use Rattle.wal_coordination.specs.declared.lock_reply.Mode.{Mode}
+use Rattle.wal_coordination.specs.declared.lock_reply.Mode.the-variants.{Given, Unknown}
 use Rattle.wal_coordination.specs.declared.reader_calls.Settings.{Settings}
 use Rattle.wal_coordination.specs.LockReply.{mode-given, with-mode}
 use Rattle.wal_coordination.specs.ReaderReply.{settings-given, Told, SlotsReplied, RegistryReplied, MoveReplied}

@@ -8,8 +8,8 @@ use Rattle.wal_types.specs.Memory.{Memory, Process}
 use Rattle.wal_types.specs.Call.{Call, Answer, refused, ok, flag, value, stored, dropped, kept, frame-found, none, listed, slot-taken, Done, after}
 use Rattle.readers.specs.Slots.{slots-in, locals-in}
 use Rattle.shared_marks.specs.Shared.{registry-in}
-use Rattle.wal_coordination.specs.declared.header_calls.Mode.{Mode}
-use Rattle.wal_coordination.specs.declared.header_calls.Mode.the-variants.{Given, Unknown}
+use Rattle.wal_coordination.specs.declared.lock_reply.Mode.{Mode}
+use Rattle.wal_coordination.specs.declared.lock_reply.Mode.the-variants.{Given, Unknown}
 use Rattle.wal_coordination.specs.declared.reader_calls.Settings.{Settings}
 use Rattle.wal_coordination.specs.declared.reader_calls.ReaderReply.{ReaderReply}
 use Rattle.wal_coordination.specs.declared.reader_calls.FloorReply.{FloorReply}

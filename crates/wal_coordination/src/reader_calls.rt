@@ -1,9 +1,9 @@
 // The calls on reader slots and shared marks.
-use crate::header_calls;
-use crate::header_calls::Mode;
-use readers::floor;
-use readers::floor::DbFileReader;
-use readers::floor::MinFrame;
+use crate::lock_reply;
+use crate::lock_reply::Mode;
+use reader_floor::floor;
+use reader_floor::floor::DbFileReader;
+use reader_floor::floor::MinFrame;
 use readers::register;
 use readers::register::Register;
 use readers::update::Release;
@@ -18,7 +18,7 @@ ghost use mathlib.Core.Path.{_≡_};
 ghost use Rattle.wal_types.specs.Call.{slot-taken};
 ghost use Rattle.readers.specs.Register.{register-reader, register-answer};
 ghost use Rattle.readers.specs.Update.{update-reader, update-answer, unregister-reader, release-answer};
-ghost use Rattle.readers.specs.Floor.{min-active-reader-frame, has-active-db-file-reader, min-frame-answer, db-file-answer};
+ghost use Rattle.reader_floor.specs.Floor.{min-active-reader-frame, has-active-db-file-reader, min-frame-answer, db-file-answer};
 ghost use Rattle.shared_marks.specs.Shared.{register-reader-for-snapshot, register-db-file-reader, unregister-reader-for-snapshot, share-answer};
 ghost use Rattle.wal_coordination.specs.Reply.{refusal-number};
 ghost use Rattle.wal_coordination.specs.LockReply.{mode-given, with-mode};
@@ -60,7 +60,7 @@ pub struct Settings {
 fn settings_of(n: usize, mode: u32) -> Settings
     ensures { λ r. ⌜ r ≡ settings-given (mode-given mode) n ⌝ }
 {
-    let Mode::Given(given) = header_calls::mode_of(mode) else {
+    let Mode::Given(given) = lock_reply::mode_of(mode) else {
         return Settings {
             n: 0,
             mode: SharedWalOwnershipMode::LinuxOfd,

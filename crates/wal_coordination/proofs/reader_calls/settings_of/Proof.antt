@@ -4,7 +4,7 @@ use Rattle.wal_coordination.proofs.reader_calls.settings_of.Statement.{
 use Rattle.wal_coordination.proofs.reader_calls.settings_of.Tie as tie
 use Rattle.wal_coordination.proofs.reader_calls.settings_of.Reads as reads
 use Rattle.wal_coordination.proofs.reader_calls.settings_of.Lts as lts
-use Rattle.wal_coordination.proofs.header_calls.mode_of.Reads as mode-of-reads
+use Rattle.wal_coordination.proofs.lock_reply.mode_of.Reads as mode-of-reads
 
 mode-of-requires : tie.Need-mode-of-requires
 mode-of-requires c κs = search needs

@@ -1,6 +1,6 @@
 use Rattle.wal_coordination.specs.ReaderReply.{db-file-reply}
 use Rattle.wal_coordination.proofs.ReaderReplies.{db-file-needs-slots, slots-told}
-use Rattle.readers.specs.Floor.{has-active-db-file-reader, db-file-answer}
+use Rattle.reader_floor.specs.Floor.{has-active-db-file-reader, db-file-answer}
 use borrow.Author.Needs.{needs}
 use Rattle.wal_coordination.proofs.reader_calls.wal_has_active_db_file_reader.Statement.{
   statement,
@@ -8,7 +8,7 @@ use Rattle.wal_coordination.proofs.reader_calls.wal_has_active_db_file_
 use Rattle.wal_coordination.proofs.reader_calls.wal_has_active_db_file_reader.Tie as tie
 use Rattle.wal_coordination.proofs.reader_calls.wal_has_active_db_file_reader.Reads as reads
 use Rattle.wal_coordination.proofs.reader_calls.wal_has_active_db_file_reader.Lts as lts
-use Rattle.readers.proofs.floor.has_active_db_file_reader.Reads as has-active-db-file-reader-reads
+use Rattle.reader_floor.proofs.floor.has_active_db_file_reader.Reads as has-active-db-file-reader-reads
 use Rattle.wal_coordination.proofs.reader_calls.db_file_told.Reads as db-file-told-reads
 use Rattle.wal_coordination.proofs.reader_calls.settings_of.Reads as settings-of-reads
 

@@ -1,6 +1,6 @@
 use Rattle.wal_coordination.specs.ReaderReply.{floor-reply}
 use Rattle.wal_coordination.proofs.ReaderReplies.{floor-needs-slots, slots-told}
-use Rattle.readers.specs.Floor.{min-active-reader-frame, min-frame-answer}
+use Rattle.reader_floor.specs.Floor.{min-active-reader-frame, min-frame-answer}
 use borrow.Author.Needs.{needs}
 use Rattle.wal_coordination.proofs.reader_calls.wal_min_active_reader_frame.Statement.{
   statement,
@@ -8,7 +8,7 @@ use Rattle.wal_coordination.proofs.reader_calls.wal_min_active_reader_f
 use Rattle.wal_coordination.proofs.reader_calls.wal_min_active_reader_frame.Tie as tie
 use Rattle.wal_coordination.proofs.reader_calls.wal_min_active_reader_frame.Reads as reads
 use Rattle.wal_coordination.proofs.reader_calls.wal_min_active_reader_frame.Lts as lts
-use Rattle.readers.proofs.floor.min_active_reader_frame.Reads as min-active-reader-frame-reads
+use Rattle.reader_floor.proofs.floor.min_active_reader_frame.Reads as min-active-reader-frame-reads
 use Rattle.wal_coordination.proofs.reader_calls.floor_told.Reads as floor-told-reads
 use Rattle.wal_coordination.proofs.reader_calls.settings_of.Reads as settings-of-reads
 
