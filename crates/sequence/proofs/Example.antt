@@ -11,7 +11,7 @@ use borrow.Author.Tests.{ne-eqb}
 use Rattle.wal_types.specs.declared.Header.{Header}
 use Rattle.wal_types.specs.declared.SharedWalOwnershipMode.the-variants.{LinuxOfd}
 use Rattle.wal_types.specs.Settings.{unused}
-use Rattle.wal_types.specs.Memory.{Memory, Process, with-header, slot-bit, bit-at}
+use Rattle.wal_types.specs.Memory.{Memory, Process, with-header, no-mark, slot-bit, bit-at}
 use Rattle.wal_types.specs.Call.{Pair, pair, Answer, refused, ok, value, stored, kept, frame-found, listed, slot-taken, Done, done, after}
 use Rattle.bitmap.specs.Bit.{clear-bit}
 use Rattle.header.specs.Publish.{publish-commit}
@@ -31,6 +31,8 @@ use Rattle.readers.specs.Update.{unregister-reader}
 use Rattle.readers.specs.Register.{some-slot}
 use Rattle.reader_floor.specs.Floor.{floor-from, min-active-reader-frame}
 use Rattle.reader_floor.specs.Limit.{copy-back-limit}
+use Rattle.shared_marks.specs.Registry.{first-record}
+use Rattle.shared_marks.specs.Shared.{register-reader-for-snapshot, unregister-reader-for-snapshot}
 use Rattle.grown_index.specs.Entries.{entries, greatest, taken-off, up-to}
 use Rattle.grown_index.specs.Grown.{LongMemory, Grown}
 use Rattle.grown_index.specs.Listed.{IsListOf}
@@ -43,11 +45,11 @@ use Rattle.grown_index.proofs.Unique.{listed-once}
 use Rattle.grown_index.proofs.Views.{view-listed}
 use Rattle.sequence.specs.Sequence.{find-op, World, Event, answer-of, next, run, FreshWorld, Throughout}
 use Rattle.sequence.specs.Book.{Book, empty-book, book-after, InPairs, here, there}
-use Rattle.sequence.specs.Hold.{accepted, direct, begins-direct, EndsDirect, KeepsAbove, SameSlot, LeavesSlot}
-use Rattle.sequence.specs.Statement.{Demand3}
-use Rattle.sequence.specs.Example.{small, zeros, fresh-memory, fresh-process, fresh-world, reader, before, begin, during, answers, Held, answered, lookup, listing, floor, limit, Example}
+use Rattle.sequence.specs.Hold.{accepted, holders-after, direct, shared, begins-direct, begins-shared, SharedLasts, EndsDirect, KeepsAbove, SameSlot, LeavesSlot}
+use Rattle.sequence.specs.Statement.{at-now, Premises, Demand3}
+use Rattle.sequence.specs.Example.{small, zeros, fresh-memory, fresh-process, fresh-world, reader, before, begin, during, answers, Held, answered, lookup, listing, floor, limit, begin-shared, during-shared, own-floor, Example}
 use Rattle.sequence.proofs.IndexStands.{fresh-stands, run-stands}
-use Rattle.sequence.proofs.Trace.{left-by, ComesTo, Trace, over, step, append, trace-run, trace-answers, trace-book, throughout}
+use Rattle.sequence.proofs.Trace.{left-by, ComesTo, Trace, over, step, append, trace-run, trace-answers, trace-book, trace-lasts, throughout}
 use Rattle.sequence.proofs.Demand3.{demand-3}
 
 -- FRESH
@@ -446,6 +448,75 @@ listed-now =
     let c : length (listed-entries 1 3 m11) ≡ 2 = sym (length-map (listed-entries 1 3 m11) (λ n. pair (getD (m11 .pages) n 0) (getD (m11 .frames) n 0))) ∙ ap length paired in
     list-done 4096 1 1 3 8 8 m11 holder passed (omega arith) (omega arith) ∙ ap (λ (l : List Pair). done (listed l) m11 holder) paired
 
+-- THE SHARED HOLD: the first registration takes slot 0, the second joins it, and one of the two is released
+abbrev sharer : ℕ → Process
+sharer holders =
+    record {
+      local-readers = 10 ∷ 0 ∷ [];
+      local-writer = 0;
+      local-checkpoint = 0;
+      registry = record { mark = 3; slot = 0; owner = record { 0 = 10 }; holders = holders } ∷ no-mark ∷ [];
+    }
+
+share5 : after (register-reader-for-snapshot 2 LinuxOfd 10 3 (1 ∷ 1 ∷ [])) m4 fresh-process ≡ done (slot-taken 0 10 3) m5 (sharer 1)
+unfolding register-reader-for-snapshot first-record byte-above lowest-slot bit-at clear-bit
+share5 = refl
+
+share6 : after (register-reader-for-snapshot 2 LinuxOfd 11 3 (1 ∷ 1 ∷ [])) m5 (sharer 1) ≡ done (slot-taken 0 10 3) m5 (sharer 2)
+unfolding register-reader-for-snapshot first-record byte-above
+share6 = refl
+
+unshare7 : after (unregister-reader-for-snapshot 2 LinuxOfd 3 0 10) m5 (sharer 2) ≡ done ok m5 (sharer 1)
+unfolding unregister-reader-for-snapshot first-record
+unshare7 = refl
+
+floor8 : after (min-active-reader-frame 2 LinuxOfd (1 ∷ 1 ∷ [])) m5 (sharer 1) ≡ done (frame-found 3) m5 (sharer 1)
+unfolding min-active-reader-frame byte-above some-slot floor-from empty-slots
+floor8 = refl
+
+abbrev s5 : World
+s5 = left-by w4 0 (done (slot-taken 0 10 3) m5 (sharer 1))
+
+abbrev s6 : World
+s6 = left-by s5 0 (done (slot-taken 0 10 3) m5 (sharer 2))
+
+abbrev s7 : World
+s7 = left-by s6 0 (done ok m5 (sharer 1))
+
+trace-shared : Trace small during-shared s5 (slot-taken 0 10 3 ∷ ok ∷ []) s7
+trace-shared = step (done (slot-taken 0 10 3) m5 (sharer 2)) share6 (step (done ok m5 (sharer 1)) unshare7 over)
+
+shares-in : next small begin-shared (run small before fresh-world) ≡ s5
+shares-in = ap (next small begin-shared) begins-in ∙ ap (left-by w4 0) share5
+
+-- no call before it registers
+no-holder : holders-after small 0 3 before fresh-world 0 ≡ 0
+unfolding holders-after
+no-holder = refl
+
+shared-left-through : Throughout (LeavesSlot small 0 0) small (during-shared ++ (own-floor ∷ [])) s5
+unfolding trace-shared append
+shared-left-through =
+    throughout small (LeavesSlot small 0 0) SlotStays slot-stays (append small trace-shared (step {e = own-floor} _ floor8 over))
+    ((λ x. absurd (x refl)), ((λ x. absurd (x refl)), ((λ x. absurd (x refl)), tt)))
+
+shared-above-through : Throughout (KeepsAbove small 3) small during-shared s5
+unfolding trace-shared
+shared-above-through = throughout small (KeepsAbove small 3) (λ e v d. KeepsAbove small 3 e v) (λ e v d q a. a) trace-shared (tt, (tt, tt))
+
+shared-holds : Premises small 1 fresh-world before begin-shared during-shared own-floor shared 0 3
+shared-holds =
+    record {
+      from-fresh = fresh;
+      begins = begins-shared {owner = 10} {o = 10} (ap (answer-of small begin-shared) begins-in ∙ ap (λ (x : Done). x .answer) share5) no-holder;
+      at-least-one = omega arith;
+      in-index = subst (λ (b : Book). InPairs 3 (b .pairs)) (sym book-begins) (there (there here));
+      is-published = subst (λ (b : Book). 3 ≤ b .published) (sym book-begins) (omega arith);
+      lasts = subst (λ (v : World). SharedLasts small 0 3 during-shared v 1) (sym shares-in) (trace-lasts small 0 3 1 trace-shared (omega arith, (omega arith, omega arith)));
+      no-rollback-below = subst (Throughout (KeepsAbove small 3) small during-shared) (sym shares-in) shared-above-through;
+      slot-left = subst (Throughout (LeavesSlot small 0 0) small (during-shared ++ (own-floor ∷ []))) (sym shares-in) shared-left-through;
+    }
+
 -- THE EXAMPLE
 pub example : Example
 example =
@@ -460,9 +531,12 @@ example =
       floor-gives = gives floor _ floored;
       limit-held = held limit _ limited (λ x. same-slot refl refl refl);
       limit-gives = gives limit _ limited;
+      shared-calls-answer = trace-answers small (append small trace-before (step (done (slot-taken 0 10 3) m5 (sharer 1)) share5 trace-shared));
+      shared-held = shared-holds;
+      shared-floor-gives = ap (answer-of small own-floor) (ap (run small during-shared) shares-in ∙ trace-run small trace-shared) ∙ ap (λ (x : Done). x .answer) floor8;
     }
 
--- DEMAND 3 says the same of the four calls, from the book of three pairs alone
+-- DEMAND 3 says the same of these calls, from the book of three pairs alone
 pub lookup-by-demand-3 : answered lookup ≡ frame-found 3
 unfolding Demand3 greatest
 lookup-by-demand-3 =
@@ -482,3 +556,7 @@ floor-by-demand-3 = demand-3 small 1 fresh-world before begin during floor direc
 pub limit-by-demand-3 : (l : ℕ) × (answered limit ≡ value l) × (l ≤ 3)
 unfolding Demand3
 limit-by-demand-3 = demand-3 small 1 fresh-world before begin during limit direct 0 3 (example .limit-held) (subst accepted (sym (example .limit-gives)) tt)
+
+pub shared-floor-by-demand-3 : (f : ℕ) × (answer-of small own-floor (at-now small 1 fresh-world before begin-shared during-shared own-floor shared 0 3) ≡ frame-found f) × (f ≤ 3)
+unfolding Demand3
+shared-floor-by-demand-3 = demand-3 small 1 fresh-world before begin-shared during-shared own-floor shared 0 3 (example .shared-held) (subst accepted (sym (example .shared-floor-gives)) tt)

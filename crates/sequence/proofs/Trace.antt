@@ -2,11 +2,12 @@
 use mathlib.Core.Path.{_≡_, refl, sym, _∙_, ap, subst}
 use mathlib.Core.Bool.{cond}
 use mathlib.Core.List.{List, [], _∷_, _++_}
-use Prim.Native.Nat.{ℕ}
+use Prim.Native.Nat.{ℕ, _≤_}
 use lib.Dec.{eqb}
 use Rattle.wal_types.specs.Call.{Answer, Done, after}
 use Rattle.sequence.specs.Sequence.{Settings, perform, World, Event, run, Throughout}
 use Rattle.sequence.specs.Book.{Book, entered, book-after}
+use Rattle.sequence.specs.Hold.{holders-next, SharedLasts}
 use Rattle.sequence.specs.Example.{answers}
 
 -- the world after a call that comes to d
@@ -21,6 +22,12 @@ ComesTo s e w d = after (perform s (e .op)) (w .memory) (w .processes (e .who)) 
 pub data Trace (s : Settings) : List Event → World → List Answer → World → Type 0 where
   over : {w : World} → Trace s [] w [] w
   step : {e : Event} {rest : List Event} {w w′ : World} {more : List Answer} (d : Done) → ComesTo s e w d → Trace s rest (left-by w (e .who) d) more w′ → Trace s (e ∷ rest) w (d .answer ∷ more) w′
+
+-- a holder is left before each call and after the last, by calls and answers
+abbrev pub HoldersLeft : ℕ → ℕ → List Event → List Answer → ℕ → Type 0
+HoldersLeft who mark [] told n = 1 ≤ n
+HoldersLeft who mark (e ∷ rest) [] n = ⊥
+HoldersLeft who mark (e ∷ rest) (a ∷ told) n = (1 ≤ n) × HoldersLeft who mark rest told (holders-next who mark e a n)
 
 -- the book, fed calls and answers
 abbrev pub fed : List Event → List Answer → Book → Book
@@ -61,3 +68,9 @@ module _ (s : Settings) where
   throughout Q P gives over a = tt
   throughout Q P gives (step {e} {rest} {w} d q g) a =
       (gives e w d q (a .0), subst (λ (x : Done). Throughout Q s rest (left-by w (e .who) x)) (sym q) (throughout Q P gives g (a .1)))
+
+  pub trace-lasts : (who mark : ℕ) {es : List Event} {w w′ : World} {told : List Answer} (n : ℕ) → Trace s es w told w′ → HoldersLeft who mark es told n → SharedLasts s who mark es w n
+  unfolding SharedLasts
+  trace-lasts who mark n over h = h
+  trace-lasts who mark n (step {e} {rest} {w} d q g) h =
+      (h .0, subst (λ (x : Done). SharedLasts s who mark rest (left-by w (e .who) x) (holders-next who mark e (x .answer) n)) (sym q) (trace-lasts who mark (holders-next who mark e (d .answer) n) g (h .1)))

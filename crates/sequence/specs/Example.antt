@@ -10,8 +10,8 @@ use Rattle.wal_types.specs.Memory.{Memory, Process, no-mark}
 use Rattle.wal_types.specs.Fresh.{fresh-header}
 use Rattle.wal_types.specs.Call.{pair, Answer, refused, ok, value, stored, kept, frame-found, listed, slot-taken}
 use Rattle.frame_index.specs.declared.find.Watermark.the-variants.{NoWatermark}
-use Rattle.sequence.specs.Sequence.{Settings, Op, record-op, rollback-op, find-op, list-op, register-op, release-op, floor-op, limit-op, commit-op, World, Event, answer-of, next}
-use Rattle.sequence.specs.Hold.{direct}
+use Rattle.sequence.specs.Sequence.{Settings, Op, record-op, rollback-op, find-op, list-op, register-op, share-op, release-op, unshare-op, floor-op, limit-op, commit-op, World, Event, answer-of, next}
+use Rattle.sequence.specs.Hold.{direct, shared}
 use Rattle.sequence.specs.Statement.{at-now, Premises}
 
 -- one block of entries, two reader slots
@@ -98,6 +98,17 @@ floor = writer (floor-op (0 ∷ 1 ∷ []))
 abbrev pub limit : Event
 limit = writer (limit-op (0 ∷ 1 ∷ []))
 
+-- The same with a shared hold, which a second registration joins before the first is released. Its floor is the holder's own,
+-- whose locks are all granted.
+abbrev pub begin-shared : Event
+begin-shared = reader (share-op 10 3 (1 ∷ 1 ∷ []))
+
+abbrev pub during-shared : List Event
+during-shared = reader (share-op 11 3 (1 ∷ 1 ∷ [])) ∷ reader (unshare-op 3 0 10) ∷ []
+
+abbrev pub own-floor : Event
+own-floor = reader (floor-op (1 ∷ 1 ∷ []))
+
 -- The answers are those of the book of three pairs, though page 7's newest frame is 5 and 5 is published.
 pub record Example : Type 0 where
   pub calls-answer :
@@ -112,3 +123,9 @@ pub record Example : Type 0 where
   pub floor-gives : answered floor ≡ frame-found 3
   pub limit-held : Held limit
   pub limit-gives : answered limit ≡ value 3
+  pub shared-calls-answer :
+      answers small (before ++ (begin-shared ∷ during-shared)) fresh-world
+      ≡ stored ∷ stored ∷ stored ∷ ok ∷ slot-taken 0 10 3 ∷ slot-taken 0 10 3 ∷ ok ∷ []
+  pub shared-held : Premises small 1 fresh-world before begin-shared during-shared own-floor shared 0 3
+  pub shared-floor-gives :
+      answer-of small own-floor (at-now small 1 fresh-world before begin-shared during-shared own-floor shared 0 3) ≡ frame-found 3
