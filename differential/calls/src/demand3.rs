@@ -1,5 +1,5 @@
-//! Demand 3 at run time: while a hold lasts, each lookup, list, floor and copy-back limit must answer as the demand says.
-//! It is fed calls and answers, and sees of the memory only the slots of holds.
+//! Demand 3 at run time: while a hold lasts, each lookup, list, floor and copy-back limit must answer as the demand
+//! says. It is fed calls and answers, and sees of the memory only the slots of holds.
 //!
 //! That another process changes a hold's slot ends what is owed only where document 01 lets the call do so. A port that
 //! does it elsewhere has broken the premise itself, and still owes.
