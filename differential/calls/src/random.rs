@@ -221,7 +221,7 @@ impl<'a> Maker<'a> {
             }
         }
         if self.family == Family::Holds {
-            self.before_holds(processes, &mut lines);
+            self.before_holds(&settings, processes, &mut lines);
         } else if on_readers && self.dice.one_in(4) {
             self.occupying(&settings, processes, &mut lines);
         }

@@ -2,13 +2,18 @@
 
 use super::readers::held_elsewhere;
 use super::Maker;
-use crate::memory::{Record, Settings, View, PROCESS_SCOPED_FCNTL, UNUSED};
+use crate::memory::{Record, Settings, View, BLOCK_ENTRIES, PROCESS_SCOPED_FCNTL, UNUSED};
 use crate::script::{Call, Card, Line};
 
 impl Maker<'_> {
-    /// Some frames, published.
-    pub(super) fn before_holds(&mut self, processes: usize, lines: &mut Vec<Line>) {
-        let frames = if self.dice.one_in(100) { self.dice.between(4090, 4100) } else { self.dice.between(1, 12) };
+    /// Some frames, published. In a large index sometimes up to the second block.
+    pub(super) fn before_holds(&mut self, settings: &Settings, processes: usize, lines: &mut Vec<Line>) {
+        let entries = BLOCK_ENTRIES as u64;
+        let large = settings.capacity > BLOCK_ENTRIES as u32 && settings.max_blocks > 1;
+        let frames = match large && self.dice.one_in(4) {
+            true => self.dice.between(entries - 6, entries + 4),
+            false => self.dice.between(1, 12),
+        };
         for frame in 1..=frames {
             let call = Call::RecordFrame { page: self.held_page(), frame, grow: true };
             lines.push(Line::Call { process: self.dice.index(processes), call });
