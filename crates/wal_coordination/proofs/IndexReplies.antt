@@ -1,10 +1,10 @@
 -- The reply of an index call tells what the call's contract says. Assumes nothing.
-use mathlib.Core.Path.{_≡_, refl}
+use mathlib.Core.Path.{_≡_, refl, ap, subst}
 use mathlib.Core.List.{List}
 use Prim.Native.Nat.{ℕ}
 use Rattle.wal_types.specs.declared.Header.{Header}
 use Rattle.wal_types.specs.Memory.{Memory, Process}
-use Rattle.wal_types.specs.Call.{Call, Done}
+use Rattle.wal_types.specs.Call.{Call, Answer, Done}
 use Rattle.frame_index.specs.declared.record.Record.{Record}
 use Rattle.frame_index.specs.declared.record.Record.the-variants.{Stored, Dropped, Refused as RecordRefused}
 use Rattle.frame_index.specs.declared.rollback.Rollback.{Rollback}
@@ -18,27 +18,34 @@ use Rattle.frame_index.specs.Index.{IndexCall, index-in}
 use Rattle.frame_index.specs.Record.{record-answer, record-header}
 use Rattle.frame_index.specs.Rollback.{rollback-answer, rollback-header}
 use Rattle.frame_index.specs.Find.{found-answer}
-use Rattle.wal_coordination.specs.declared.index_calls.IndexReply.{IndexReply}
+use Rattle.wal_coordination.specs.declared.index_reply.IndexReply.{IndexReply}
 use Rattle.wal_coordination.specs.declared.index_calls.FindReply.{FindReply}
 use Rattle.wal_coordination.specs.declared.index_calls.ListReply.{ListReply}
-use Rattle.wal_coordination.specs.IndexReply.{list-reply, ListTold, ListReplied, record-reply, rollback-reply, find-reply, Told, IndexReplied, FindTold, FindReplied}
-
--- what a reply tells of one outcome it tells of its equal
-told-by : (r : IndexReply) (z : Memory) (ps fs hs : List ℕ) (p : Process) {d e : Done} → d ≡ e → Told r z ps fs hs p e → Told r z ps fs hs p d
-told-by r z ps fs hs p q t = rw q t
+use Rattle.wal_coordination.specs.Reply.{refusal-number, answer-number}
+use Rattle.wal_coordination.specs.IndexReply.{list-reply, ListTold, ListReplied, record-cells, rollback-cells, with-cells, find-reply, IndexReplied, FindTold, FindReplied}
+use Rattle.wal_coordination.proofs.Touched.{taken-from, outside-stays}
+use Rattle.wal_coordination.proofs.IndexStores.{is-index, IndexOnly}
 
 find-told-by : (r : FindReply) (z : Memory) (h : Header) (ps fs hs : List ℕ) (p : Process) {d e : Done} → d ≡ e → FindTold r z h ps fs hs p e → FindTold r z h ps fs hs p d
 find-told-by r z h ps fs hs p q t = rw q t
 
-module _ (call : Call) (h : Header) (ps fs hs ps′ fs′ hs′ : List ℕ) where
-  pub record-told : (a : Record) → IndexCall call h ps fs hs (record-answer a) (record-header h a) ps′ fs′ hs′ → IndexReplied call h ps fs hs (record-reply a h) ps′ fs′ hs′
-  record-told (Stored next) e z p = told-by _ z _ _ _ p (e z p) (record { refusal-told = refl; answer-told = refl; memory-left = refl; process-left = refl })
-  record-told (Dropped next) e z p = told-by _ z _ _ _ p (e z p) (record { refusal-told = refl; answer-told = refl; memory-left = refl; process-left = refl })
-  record-told (RecordRefused n) e z p = told-by _ z _ _ _ p (e z p) (record { refusal-told = refl; answer-told = refl; memory-left = refl; process-left = refl })
+-- a call that stores to the index's cells of the header only
+module _ (call : Call) (only : IndexOnly call) (h : Header) (ps fs hs ps′ fs′ hs′ : List ℕ) where
+  told : (a : Answer) (g : Header) → IndexCall call h ps fs hs a g ps′ fs′ hs′ → (r : IndexReply) → r ≡ record { refusal = refusal-number a; answer = answer-number a } → IndexReplied call h ps fs hs r (taken-from is-index g h) ps′ fs′ hs′
+  told a g e r i z p =
+      let m = index-in z h ps fs hs in
+      let stays = outside-stays is-index (λ h. refl) (call m p .stores) (only m p) m in
+      let left = subst (λ x. taken-from is-index x h ≡ x) (ap (λ d. d .memory .header) (e z p)) stays in
+      rw (left, e z p, i) (record { refusal-told = refl; answer-told = refl; memory-left = refl; process-left = refl })
 
-  pub rollback-told : (a : Rollback) → IndexCall call h ps fs hs (rollback-answer a) (rollback-header h a) ps′ fs′ hs′ → IndexReplied call h ps fs hs (rollback-reply a h) ps′ fs′ hs′
-  rollback-told (Kept next) e z p = told-by _ z _ _ _ p (e z p) (record { refusal-told = refl; answer-told = refl; memory-left = refl; process-left = refl })
-  rollback-told (RollbackRefused n) e z p = told-by _ z _ _ _ p (e z p) (record { refusal-told = refl; answer-told = refl; memory-left = refl; process-left = refl })
+  pub record-told : (a : Record) → IndexCall call h ps fs hs (record-answer a) (record-header h a) ps′ fs′ hs′ → IndexReplied call h ps fs hs (record-cells a h .reply) (with-cells (record-cells a h) h .header) ps′ fs′ hs′
+  record-told (Stored next) e = told _ _ e _ refl
+  record-told (Dropped next) e = told _ _ e _ refl
+  record-told (RecordRefused n) e = told _ _ e _ refl
+
+  pub rollback-told : (a : Rollback) → IndexCall call h ps fs hs (rollback-answer a) (rollback-header h a) ps′ fs′ hs′ → IndexReplied call h ps fs hs (rollback-cells a h .reply) (with-cells (rollback-cells a h) h .header) ps′ fs′ hs′
+  rollback-told (Kept next) e = told _ _ e _ refl
+  rollback-told (RollbackRefused n) e = told _ _ e _ refl
 
 module _ (call : Call) (h : Header) (ps fs hs : List ℕ) where
   pub find-told : (a : Found) → IndexCall call h ps fs hs (found-answer a) h ps fs hs → FindReplied call h ps fs hs (find-reply a)

@@ -4,5 +4,6 @@ mod Acquires
 mod Releases
 mod Touched
 mod Replies
+mod IndexStores
 mod IndexReplies
 mod ReaderReplies

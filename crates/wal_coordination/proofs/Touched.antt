@@ -83,9 +83,9 @@ module _ (inside : HeaderCell → Bool) where
   all-of-when false p x m = tt
 
   -- calls of such pieces
-  pub all-of-cond : (b : Bool) (o r : Outcome) → AllInside (o .stores) → AllInside (r .stores) → AllInside (cond b o r .stores)
-  all-of-cond true o r x y = x
-  all-of-cond false o r x y = y
+  pub all-of-cond : (b : Bool) (f g : Process → Outcome) (p : Process) → AllInside (f p .stores) → AllInside (g p .stores) → AllInside (cond b f g p .stores)
+  all-of-cond true f g p x y = x
+  all-of-cond false f g p x y = y
 
   all-of-accepted : (n : ℕ) (p : Process) (o : Outcome) → AllInside (o .stores) → AllInside (accepted-or n p o .stores)
   all-of-accepted zero p o x = x

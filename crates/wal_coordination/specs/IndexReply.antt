@@ -7,6 +7,7 @@ use lib.Dec.{eqb}
 use lib.ListN.{length, drop}
 use Rattle.wal_types.specs.declared.Header.{Header}
 use Rattle.wal_types.specs.Memory.{Memory, Process}
+use Rattle.wal_types.specs.Store.{header-with, frame-index-blocks, frame-index-len, frame-index-overflowed}
 use Rattle.wal_types.specs.Call.{Pair, Call, Answer, refused, ok, flag, value, stored, dropped, kept, frame-found, none, listed, slot-taken, Done, after}
 use Rattle.frame_index.specs.declared.record.Record.{Record}
 use Rattle.frame_index.specs.declared.record.Record.the-variants.{Stored, Dropped, Refused as RecordRefused}
@@ -17,39 +18,54 @@ use Rattle.frame_index.specs.declared.find.Found.the-variants.{Frame, NoFrame, 
 use Rattle.frame_index.specs.declared.find.Watermark.{Watermark}
 use Rattle.frame_index.specs.declared.find.Watermark.the-variants.{UpTo, NoWatermark}
 use Rattle.frame_index.specs.Index.{index-in}
-use Rattle.wal_coordination.specs.declared.index_calls.IndexReply.{IndexReply}
+use Rattle.wal_coordination.specs.declared.index_reply.IndexReply.{IndexReply}
+use Rattle.wal_coordination.specs.declared.index_reply.IndexCells.{IndexCells}
+use Rattle.wal_coordination.specs.declared.index_reply.IndexLeft.{IndexLeft}
 use Rattle.wal_coordination.specs.declared.index_calls.FindReply.{FindReply}
 use Rattle.wal_coordination.specs.declared.index_calls.ListReply.{ListReply}
 use Rattle.frame_list.specs.declared.List.{List as ListAnswer}
 use Rattle.frame_list.specs.declared.List.the-variants.{Pairs, Refused as ListRefused}
 use Rattle.wal_coordination.specs.Reply.{refusal-number, answer-number}
 
--- The reply of each case of an answer, with the header that was given.
-abbrev pub record-reply : Record → Header → IndexReply
-record-reply (Stored next) h = record { refusal = 0; answer = 1; header = next }
-record-reply (Dropped next) h = record { refusal = 0; answer = 0; header = next }
-record-reply (RecordRefused n) h = record { refusal = n; answer = 0; header = h }
+-- The reply and the index's cells of each case of an answer, with the header that was given.
+abbrev pub cells-of : ℕ → ℕ → Header → IndexCells
+cells-of n answer h =
+    record { reply = record { refusal = n; answer = answer }; «frame_index_blocks» = h .«frame_index_blocks»; «frame_index_len» = h .«frame_index_len»; «frame_index_overflowed» = h .«frame_index_overflowed» }
 
-abbrev pub rollback-reply : Rollback → Header → IndexReply
-rollback-reply (Kept next) h = record { refusal = 0; answer = next .«frame_index_len»; header = next }
-rollback-reply (RollbackRefused n) h = record { refusal = n; answer = 0; header = h }
+abbrev pub record-cells : Record → Header → IndexCells
+record-cells (Stored next) h = cells-of 0 1 next
+record-cells (Dropped next) h = cells-of 0 0 next
+record-cells (RecordRefused n) h = cells-of n 0 h
 
+abbrev pub rollback-cells : Rollback → Header → IndexCells
+rollback-cells (Kept next) h = cells-of 0 (next .«frame_index_len») next
+rollback-cells (RollbackRefused n) h = cells-of n 0 h
+
+-- the header with these cells in it, and the reply
+abbrev pub with-cells : IndexCells → Header → IndexLeft
+with-cells c h =
+    record {
+      header = header-with frame-index-blocks (c .«frame_index_blocks») (header-with frame-index-len (c .«frame_index_len») (header-with frame-index-overflowed (c .«frame_index_overflowed») h));
+      reply = c .reply;
+    }
+
+-- The reply of each case of a lookup's answer.
 abbrev pub find-reply : Found → FindReply
 find-reply (Frame f) = record { refusal = 0; found = 1; frame = f }
 find-reply NoFrame = record { refusal = 0; found = 0; frame = 0 }
 find-reply (FindRefused n) = record { refusal = n; found = 0; frame = 0 }
 
 -- The reply tells what the call answers, the header and index are as it leaves them, and nothing else changes.
-pub record Told (r : IndexReply) (z : Memory) (ps fs hs : List ℕ) (p : Process) (d : Done) : Type 0 where
+pub record Told (r : IndexReply) (z : Memory) (h : Header) (ps fs hs : List ℕ) (p : Process) (d : Done) : Type 0 where
   pub refusal-told : r .refusal ≡ refusal-number (d .answer)
   pub answer-told : r .answer ≡ answer-number (d .answer)
-  pub memory-left : d .memory ≡ index-in z (r .header) ps fs hs
+  pub memory-left : d .memory ≡ index-in z h ps fs hs
   pub process-left : d .process ≡ p
 
 -- So it is on any memory with this header and index in it, by any process.
-abbrev pub IndexReplied : Call → Header → List ℕ → List ℕ → List ℕ → IndexReply → List ℕ → List ℕ → List ℕ → Type 0
-IndexReplied call h ps fs hs r ps′ fs′ hs′ =
-    (z : Memory) (p : Process) → Told r z ps′ fs′ hs′ p (after call (index-in z h ps fs hs) p)
+abbrev pub IndexReplied : Call → Header → List ℕ → List ℕ → List ℕ → IndexReply → Header → List ℕ → List ℕ → List ℕ → Type 0
+IndexReplied call h ps fs hs r h′ ps′ fs′ hs′ =
+    (z : Memory) (p : Process) → Told r z h′ ps′ fs′ hs′ p (after call (index-in z h ps fs hs) p)
 
 -- The watermark of two numbers: none if the first is 0.
 unfoldable pub watermark-given : ℕ → ℕ → Watermark

@@ -1,11 +1,9 @@
-// The calls on the frame index.
+// The calls on the frame index. Those that change it have the header lent; a lookup and a list are given it by value.
+use crate::index_reply;
+use crate::index_reply::IndexReply;
 use frame_index::find;
 use frame_index::find::Found;
 use frame_index::find::Watermark;
-use frame_index::record;
-use frame_index::record::Record;
-use frame_index::rollback;
-use frame_index::rollback::Rollback;
 use frame_list::List;
 use wal_types::Header;
 ghost use mathlib.Core.Path.{_≡_};
@@ -16,16 +14,7 @@ ghost use Rattle.frame_index.specs.Record.{record-frame};
 ghost use Rattle.frame_index.specs.Rollback.{rollback-frames};
 ghost use Rattle.frame_index.specs.Find.{find-frame};
 ghost use Rattle.frame_list.specs.Latest.{iter-latest-frames};
-ghost use Rattle.wal_coordination.specs.IndexReply.{record-reply, rollback-reply, find-reply, IndexReplied, watermark-given, FindReplied, list-reply, ListReplied};
-
-// The answer of a record or a rollback in numbers. refusal: 0, or the number of the refusal. answer: 1 stored, 0 dropped;
-// for a rollback the kept length. header is as the call leaves it: after a refusal, as it was given.
-#[repr(C)]
-pub struct IndexReply {
-    pub refusal: u32,
-    pub answer: u32,
-    pub header: Header,
-}
+ghost use Rattle.wal_coordination.specs.IndexReply.{find-reply, IndexReplied, watermark-given, FindReplied, list-reply, ListReplied};
 
 // The answer of a lookup in numbers. found: 1 if there is a frame.
 #[repr(C)]
@@ -40,45 +29,6 @@ pub struct FindReply {
 pub struct ListReply {
     pub refusal: u32,
     pub count: u64,
-}
-
-fn recorded(answer: Record, header: Header) -> IndexReply
-    ensures { λ r. ⌜ r ≡ record-reply answer header ⌝ }
-{
-    match answer {
-        Record::Stored(next) => IndexReply {
-            refusal: 0,
-            answer: 1,
-            header: next,
-        },
-        Record::Dropped(next) => IndexReply {
-            refusal: 0,
-            answer: 0,
-            header: next,
-        },
-        Record::Refused(number) => IndexReply {
-            refusal: number,
-            answer: 0,
-            header: header,
-        },
-    }
-}
-
-fn rolled_back(answer: Rollback, header: Header) -> IndexReply
-    ensures { λ r. ⌜ r ≡ rollback-reply answer header ⌝ }
-{
-    match answer {
-        Rollback::Kept(next) => IndexReply {
-            refusal: 0,
-            answer: next.frame_index_len,
-            header: next,
-        },
-        Rollback::Refused(number) => IndexReply {
-            refusal: number,
-            answer: 0,
-            header: header,
-        },
-    }
 }
 
 fn looked_up(answer: Found) -> FindReply
@@ -132,7 +82,7 @@ fn watermark_of(has_watermark: u32, watermark: u64) -> Watermark
 pub extern "C" fn wal_record_frame(
     capacity: u32,
     max_blocks: u32,
-    header: Header,
+    header: &mut Header,
     pages: &mut [u64],
     frames: &mut [u64],
     hash: &mut [u16],
@@ -140,20 +90,22 @@ pub extern "C" fn wal_record_frame(
     frame_id: u64,
     grow: u32,
 ) -> IndexReply
-    ensures { λ r. ⌜ IndexReplied (record-frame capacity «max_blocks» «page_id» «frame_id» (not (eqb grow 0))) header (now (pages .entry)) (now (frames .entry)) (now (hash .entry)) r (now (pages .exit)) (now (frames .exit)) (now (hash .exit)) ⌝ }
+    ensures { λ r. ⌜ IndexReplied (record-frame capacity «max_blocks» «page_id» «frame_id» (not (eqb grow 0))) (now (header .entry)) (now (pages .entry)) (now (frames .entry)) (now (hash .entry)) r (now (header .exit)) (now (pages .exit)) (now (frames .exit)) (now (hash .exit)) ⌝ }
 {
-    let answer = record::record_frame(
+    let cells = index_reply::record_frame(
         capacity,
         max_blocks,
-        header,
+        *header,
         pages,
         frames,
         hash,
         page_id,
         frame_id,
-        grow != 0,
+        grow,
     );
-    recorded(answer, header)
+    let left = index_reply::left(*header, cells);
+    *header = left.header;
+    left.reply
 }
 
 // Drops the entries from the end whose frame is above max_frame.
@@ -161,24 +113,26 @@ pub extern "C" fn wal_record_frame(
 pub extern "C" fn wal_rollback_frames(
     capacity: u32,
     max_blocks: u32,
-    header: Header,
+    header: &mut Header,
     pages: &[u64],
     frames: &[u64],
     hash: &mut [u16],
     max_frame: u64,
 ) -> IndexReply
-    ensures { λ r. ⌜ IndexReplied (rollback-frames capacity «max_blocks» «max_frame») header (now (pages .entry)) (now (frames .entry)) (now (hash .entry)) r (now (pages .entry)) (now (frames .entry)) (now (hash .exit)) ⌝ }
+    ensures { λ r. ⌜ IndexReplied (rollback-frames capacity «max_blocks» «max_frame») (now (header .entry)) (now (pages .entry)) (now (frames .entry)) (now (hash .entry)) r (now (header .exit)) (now (pages .entry)) (now (frames .entry)) (now (hash .exit)) ⌝ }
 {
-    let answer = rollback::rollback_frames(
+    let cells = index_reply::rollback_frames(
         capacity,
         max_blocks,
-        header,
+        *header,
         pages,
         frames,
         hash,
         max_frame,
     );
-    rolled_back(answer, header)
+    let left = index_reply::left(*header, cells);
+    *header = left.header;
+    left.reply
 }
 
 // Looks up the latest frame of a page. has_watermark: 0 if there is none, else watermark is it.

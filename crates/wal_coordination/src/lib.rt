@@ -3,5 +3,6 @@
 // that nothing else uses during the call, and one call is made at a time.
 pub mod header_calls;
 pub mod index_calls;
+pub mod index_reply;
 pub mod lock_reply;
 pub mod reader_calls;

@@ -46,7 +46,7 @@ impl Side for Port {
             wal_record_frame(
                 SETTINGS.capacity,
                 SETTINGS.max_blocks,
-                *header,
+                header,
                 pages.as_mut_ptr(),
                 pages.len(),
                 frames.as_mut_ptr(),
@@ -59,7 +59,6 @@ impl Side for Port {
             )
         };
         assert_eq!(reply.refusal, 0);
-        *header = reply.header;
     }
 
     #[inline]
@@ -69,7 +68,7 @@ impl Side for Port {
             wal_rollback_frames(
                 SETTINGS.capacity,
                 SETTINGS.max_blocks,
-                *header,
+                header,
                 pages.as_ptr(),
                 pages.len(),
                 frames.as_ptr(),
@@ -80,7 +79,6 @@ impl Side for Port {
             )
         };
         assert_eq!(reply.refusal, 0);
-        *header = reply.header;
     }
 
     #[inline]

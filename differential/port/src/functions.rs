@@ -14,7 +14,6 @@ pub struct LockReply {
 pub struct IndexReply {
     pub refusal: u32,
     pub answer: u32,
-    pub header: Header,
 }
 
 #[repr(C)]
@@ -52,7 +51,7 @@ extern "C" {
     pub fn wal_record_frame(
         capacity: u32,
         max_blocks: u32,
-        header: Header,
+        header: *mut Header,
         pages: *mut u64,
         pages_len: usize,
         frames: *mut u64,
@@ -66,7 +65,7 @@ extern "C" {
     pub fn wal_rollback_frames(
         capacity: u32,
         max_blocks: u32,
-        header: Header,
+        header: *mut Header,
         pages: *const u64,
         pages_len: usize,
         frames: *const u64,

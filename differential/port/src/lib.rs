@@ -49,7 +49,7 @@ impl Port for Library {
             wal_record_frame(
                 capacity,
                 max_blocks,
-                *header,
+                header,
                 pages.as_mut_ptr(),
                 pages.len(),
                 frames.as_mut_ptr(),
@@ -61,7 +61,6 @@ impl Port for Library {
                 grow.into(),
             )
         };
-        *header = reply.header;
         Some(answer(reply.refusal, reply.answer, recorded))
     }
 
@@ -72,7 +71,7 @@ impl Port for Library {
             wal_rollback_frames(
                 capacity,
                 max_blocks,
-                *header,
+                header,
                 pages.as_ptr(),
                 pages.len(),
                 frames.as_ptr(),
@@ -82,7 +81,6 @@ impl Port for Library {
                 bound,
             )
         };
-        *header = reply.header;
         Some(answer(reply.refusal, reply.answer, |kept| Some(Answer::Kept(kept))))
     }
 
