@@ -7,3 +7,4 @@ mod Replies
 mod IndexStores
 mod IndexReplies
 mod ReaderReplies
+mod ReaderWalk

@@ -57,7 +57,7 @@ pub struct Settings {
 }
 
 // The settings of two numbers. Where mode is no lock mode's number there are 0 slots, and every call is refused with 1.
-fn settings_of(n: usize, mode: u32) -> Settings
+pub fn settings_of(n: usize, mode: u32) -> Settings
     ensures { λ r. ⌜ r ≡ settings-given (mode-given mode) n ⌝ }
 {
     let Mode::Given(given) = lock_reply::mode_of(mode) else {
@@ -113,7 +113,7 @@ fn move_told(answer: Update, slot: usize, owner: u64, mark: u64) -> ReaderReply
     }
 }
 
-fn share_told(answer: Share) -> ReaderReply
+pub fn share_told(answer: Share) -> ReaderReply
     ensures { λ r. ⌜ r ≡ reader-reply (share-answer answer) ⌝ }
 {
     match answer {
@@ -124,7 +124,7 @@ fn share_told(answer: Share) -> ReaderReply
 }
 
 // 0, or the number of the refusal.
-fn release_told(answer: Release) -> u32
+pub fn release_told(answer: Release) -> u32
     ensures { λ r. ⌜ r ≡ refusal-number (release-answer answer) ⌝ }
 {
     match answer {

@@ -21,7 +21,7 @@ use types.Part.{agg, whole, sub, look-in}
 use types.Run.{look, init, land, and-then, no-more, addr, forget, stop, hop, fld, from, load, assigns, returns, enter, alloc1, alloc0, params1, pass1, pass0, free1, free0}
 use sound.WpLaws.{FmC, fmOf, WpFn-mono}
 use denote.Exit.{yes}
-use denote.RattleType.{RattleType, owns}
+use denote.RattleType.{owns}
 use denote.Laws.{Is, shows}
 use denote.Plain.{uint-vals, uint-tells, uint-makes}
 use denote.Ref.{RefT}
@@ -41,7 +41,6 @@ use denote.Triple.Walked.{says, Stays, gave-slice, stay-none, stay-none-slice, w
 use Rattle.wal_types.specs.Call.{Call}
 use Rattle.wal_types.specs.declared.SharedReadMark.{SharedReadMark}
 use Rattle.wal_types.specs.declared.SharedOwnerRecord.{SharedOwnerRecord}
-use Rattle.wal_types.proofs.SharedReadMark as T
 use Rattle.wal_types.proofs.SharedOwnerRecord as O
 use Rattle.wal_types.proofs.SharedOwnerRecord.Laws as O′
 use Rattle.shared_marks.specs.Direct.{DirectMove}
@@ -49,6 +48,7 @@ use Rattle.readers.specs.Update.{update-reader, update-answer}
 use Rattle.readers.specs.declared.update.Update.{Update}
 use Rattle.wal_coordination.specs.declared.reader_calls.ReaderReply.{ReaderReply}
 use Rattle.wal_coordination.specs.ReaderReply.{reader-reply, MoveReplied}
+use Rattle.wal_coordination.proofs.ReaderWalk.{R, owner-val, reply-val, owner-of, owner-is}
 use Rattle.wal_coordination.proofs.ReaderReplies.{move-told}
 use Rattle.readers.proofs.update.Update as S
 use Rattle.readers.proofs.update.Update.Laws as S′
@@ -67,17 +67,8 @@ use Rattle.wal_coordination.proofs.reader_calls.wal_update_reader as en
 use Rattle.wal_coordination.proofs.reader_calls.wal_update_reader.Statement as stated
 use Rattle.wal_coordination.proofs.reader_calls.wal_update_reader.Code as code
 
-abbrev R : RattleType
-R = T.the-row
-
-abbrev owner-val : SharedOwnerRecord → Val
-owner-val k = LL.val O.the-type O′.the-laws k
-
 abbrev answer-val : Update → Val
 answer-val k = EL.val S.the-type S′.the-laws k
-
-abbrev reply-val : ReaderReply → Val
-reply-val k = LL.val Y.the-type Y′.the-laws k
 
 abbrev stayed : Stays (entry.ended .signature .params) (entry.ended .kept)
 stayed = (stay-none (λ _. usize) yes, (gave-slice (0 ∷ []) tt (plain (λ _. u64)), (stay-none-slice (1 ∷ []) tt (plain (λ _. u64)) yes, (stay-none-slice (2 ∷ []) tt (plain (λ _. R)) yes, (stay-none (λ _. usize) yes, (stay-none (λ _. u64) yes, (stay-none (λ _. u64) yes, tt)))))))
@@ -109,12 +100,6 @@ module _ {M : Type 1} (𝓤 : URA M) (H : Heap 𝓤) (A : Atoms 𝓤) (W : Given
   abbrev flat : List Val
   flat = vint w64 n ∷ sliceVal (y1 .ptr) (length (y1 .now)) ∷ sliceVal (y2 .ptr) (length (y2 .now)) ∷ sliceVal (g .ptr) (length (g .now)) ∷ vint w64 sl ∷ vint w64 ow ∷ vint w64 m ∷ []
 
-  abbrev owner : SharedOwnerRecord
-  owner = record { 0 = ow }
-
-  owner-is : Is O.the-row owner (owner-val owner ∷ [])
-  owner-is = LL.owes O.the-type O′.the-laws owner ((refl, g-ow), tt)
-
   abbrev Post : Val → SProp 𝓤
   Post = walkOf 𝓤 H A entry.ended stayed (entry.clauses 𝓤 H A mem run) .post ((κs, qs, tt, a, at), tt)
 
@@ -139,10 +124,10 @@ module _ {M : Type 1} (𝓤 : URA M) (H : Heap 𝓤) (A : Atoms 𝓤) (W : Given
 
   -- what the core is passed
   abbrev args : ℕ × (RefT (List ℕ) × (RefT (List ℕ) × (RefT (List SharedReadMark) × (ℕ × (SharedOwnerRecord × (ℕ × Unit {0}))))))
-  args = (n, (y1, (y2, (g, (sl, (owner, (m, tt)))))))
+  args = (n, (y1, (y2, (g, (sl, (owner-of ow, (m, tt)))))))
 
   abbrev argv : List Val × (List Val × (List Val × (List Val × (List Val × (List Val × (List Val × Unit {0}))))))
-  argv = (vint w64 n ∷ [], (slice-vals y1, (slice-vals y2, (slice-vals g, (vint w64 sl ∷ [], (owner-val owner ∷ [], (vint w64 m ∷ [], tt)))))))
+  argv = (vint w64 n ∷ [], (slice-vals y1, (slice-vals y2, (slice-vals g, (vint w64 sl ∷ [], (owner-val (owner-of ow) ∷ [], (vint w64 m ∷ [], tt)))))))
 
   abbrev to-core : Core 𝓤 H A mem run .Ghost
   to-core = ((κs, qs, tt, args, argv), tt)
@@ -178,11 +163,11 @@ module _ {M : Type 1} (𝓤 : URA M) (H : Heap 𝓤) (A : Atoms 𝓤) (W : Given
         drop ! $ move ! (6 ∷ []) $ drop ! $ move ! (2 ∷ []) $ drop ! $ move ! (1 ∷ []) $ drop ! $ drop ! $
         assigns ! (addr ! (from ! (fld ! refl (hop ! (look-in ! 21 (sub ! 0 refl (whole !))) (stop !))))) (from ! (stop !)) (init ! 7 refl (tt, tt)) $
         assigns ! (agg ! (and-then ! (load ! (from ! (stop !)) (look ! 7 refl)) (and-then ! (load ! (from ! (fld ! refl (stop !))) (look-in ! 21 (sub ! 1 refl (whole !)))) (no-more !)))) (from ! (stop !)) (init ! 5 refl (tt, (tt, (record { fits = room-y1 .0 }, tt)))) $
-        assigns ! (agg ! (and-then ! (load ! (from ! (stop !)) (look ! 13 refl)) (no-more !))) (from ! (stop !)) (init ! 3 refl (LL.lawful O.the-type O′.the-laws 𝓤 H A W .typed owner _ owner-is .0)) $
+        assigns ! (agg ! (and-then ! (load ! (from ! (stop !)) (look ! 13 refl)) (no-more !))) (from ! (stop !)) (init ! 3 refl (LL.lawful O.the-type O′.the-laws 𝓤 H A W .typed (owner-of ow) _ (owner-is ow g-ow) .0)) $
         -- what the core is passed
         move ! (1 ∷ []) $ use1 W (‵ (ShrSlice (named 1) κ1 u64 .own y2 (slice-vals y2)) ⊛ ‵ (ShrSlice (named 1) κ1 u64 .own y2 (slice-vals y2))) (shr-slice-copy 𝓤 H A W (named 1) κ1 u64 .twice y2 (slice-vals y2)) $ split ! $
         move ! (2 ∷ []) $ use1 W (‵ (ShrSlice (named 2) κ2 R .own g (slice-vals g)) ⊛ ‵ (ShrSlice (named 2) κ2 R .own g (slice-vals g))) (shr-slice-copy 𝓤 H A W (named 2) κ2 R .twice g (slice-vals g)) $ split ! $ nothing ! $
-        owned ! u64 (Is u64) (uint-makes 𝓤 H A W w64) m _ (refl, g-m) $ fjoin ! $ owned ! O.the-row (Is O.the-row) (LL.makes O.the-type O′.the-plain 𝓤 H A) owner _ owner-is $ fjoin ! $
+        owned ! u64 (Is u64) (uint-makes 𝓤 H A W w64) m _ (refl, g-m) $ fjoin ! $ owned ! O.the-row (Is O.the-row) (LL.makes O.the-type O′.the-plain 𝓤 H A) (owner-of ow) _ (owner-is ow g-ow) $ fjoin ! $
         owned ! usize (Is usize) (uint-makes 𝓤 H A W w64) sl _ (refl, g-sl) $ fjoin ! $ move ! (1 ∷ 0 ∷ []) $ fjoin ! $ move ! (2 ∷ 0 ∷ []) $ fjoin ! $ move ! (3 ∷ 0 ∷ []) $ fjoin ! $
         owned ! usize (Is usize) (uint-makes 𝓤 H A W w64) n _ (refl, g-n) $ fjoin ! $ move ! (27 ∷ 0 ∷ []) $ use2 W (raw (Core 𝓤 H A mem run .pre to-core)) goes-core $
         calls-at ! fm (Core 𝓤 H A mem run) known to-core (and-then ! (load ! (from ! (stop !)) (look ! 23 refl)) (and-then ! (load ! (from ! (stop !)) (look ! 5 refl)) (and-then ! (load ! (from ! (stop !)) (look ! 19 refl)) (and-then ! (load ! (from ! (stop !)) (look ! 17 refl)) (and-then ! (load ! (from ! (stop !)) (look ! 15 refl)) (and-then ! (load ! (from ! (stop !)) (look ! 3 refl)) (and-then ! (load ! (from ! (stop !)) (look ! 11 refl)) (no-more !)))))))) (λ x.
