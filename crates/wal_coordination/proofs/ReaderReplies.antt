@@ -10,13 +10,14 @@ use Rattle.readers.specs.Slots.{ReaderCall}
 use Rattle.readers.specs.Register.{register-reader}
 use Rattle.readers.specs.Update.{unregister-reader}
 use Rattle.reader_floor.specs.Floor.{min-active-reader-frame, has-active-db-file-reader}
+use Rattle.reader_floor.specs.Limit.{copy-back-limit, LimitCall}
 use Rattle.shared_marks.specs.Shared.{register-reader-for-snapshot, unregister-reader-for-snapshot, SharedCall}
 use Rattle.shared_marks.specs.Direct.{DirectMove}
 use Rattle.wal_coordination.specs.declared.lock_reply.Mode.{Mode}
 use Rattle.wal_coordination.specs.declared.lock_reply.Mode.the-variants.{Given, Unknown}
 use Rattle.wal_coordination.specs.declared.reader_calls.Settings.{Settings}
 use Rattle.wal_coordination.specs.LockReply.{mode-given, with-mode}
-use Rattle.wal_coordination.specs.ReaderReply.{settings-given, Told, SlotsReplied, RegistryReplied, MoveReplied}
+use Rattle.wal_coordination.specs.ReaderReply.{settings-given, Told, SlotsReplied, RegistryReplied, MoveReplied, LimitReplied}
 
 -- Of 0 slots the call is refused with 1.
 abbrev pub NeedsSlots : (ℕ → SharedWalOwnershipMode → Call) → Type 0
@@ -33,6 +34,10 @@ floor-needs-slots bytes mode m p = refl
 pub db-file-needs-slots : (bytes : List ℕ) → NeedsSlots (λ n mode. has-active-db-file-reader n mode bytes)
 unfolding has-active-db-file-reader
 db-file-needs-slots bytes mode m p = refl
+
+pub limit-needs-slots : (bytes : List ℕ) → NeedsSlots (λ n mode. copy-back-limit n mode bytes)
+unfolding copy-back-limit
+limit-needs-slots bytes mode m p = refl
 
 pub release-needs-slots : (slot owner : ℕ) → NeedsSlots (λ n mode. unregister-reader n mode slot owner)
 unfolding unregister-reader
@@ -62,6 +67,9 @@ module _ {R : Type 0} (reply-of : Answer → R) (call : ℕ → SharedWalOwnersh
 
     pub slots-told : (b f o l b′ f′ o′ l′ : List ℕ) → ReaderCall (call (s .n) (s .mode)) b f o l a b′ f′ o′ l′ → SlotsReplied reply-of (with-mode (mode-given mode) (call n)) b f o l r b′ f′ o′ l′
     slots-told b f o l b′ f′ o′ l′ e z p = told-of _ _ _ _ (e z p)
+
+    pub limit-told : (published : ℕ) (b f o l b′ f′ o′ : List ℕ) → LimitCall (call (s .n) (s .mode)) published b f o l a b′ f′ o′ → LimitReplied reply-of (with-mode (mode-given mode) (call n)) published b f o l r b′ f′ o′
+    limit-told published b f o l b′ f′ o′ e z p at = told-of _ _ _ _ (e z p at)
 
     pub registry-told : (b f o l : List ℕ) (g : List SharedReadMark) (b′ f′ o′ l′ : List ℕ) (g′ : List SharedReadMark) → SharedCall (call (s .n) (s .mode)) b f o l g a b′ f′ o′ l′ g′ → RegistryReplied reply-of (with-mode (mode-given mode) (call n)) b f o l g r b′ f′ o′ l′ g′
     registry-told b f o l g b′ f′ o′ l′ g′ e z p = told-of _ _ _ _ (e z p)

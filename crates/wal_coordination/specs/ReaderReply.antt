@@ -14,6 +14,7 @@ use Rattle.wal_coordination.specs.declared.reader_calls.Settings.{Settin
 use Rattle.wal_coordination.specs.declared.reader_calls.ReaderReply.{ReaderReply}
 use Rattle.wal_coordination.specs.declared.reader_calls.FloorReply.{FloorReply}
 use Rattle.wal_coordination.specs.declared.reader_calls.DbFileReply.{DbFileReply}
+use Rattle.wal_coordination.specs.declared.reader_calls.LimitReply.{LimitReply}
 use Rattle.wal_coordination.specs.Reply.{refusal-number, answer-number}
 use Rattle.wal_coordination.specs.IndexReply.{found-number}
 
@@ -22,7 +23,7 @@ abbrev pub settings-given : Mode → ℕ → Settings
 settings-given (Given mode) n = record { n = n; mode = mode }
 settings-given Unknown n = record { n = 0; mode = LinuxOfd }
 
--- The reply that tells an answer: of a slot, of a floor, of a database file reader.
+-- The reply that tells an answer: of a slot, of a floor, of a database file reader, of a limit.
 abbrev pub no-slot : ℕ → ReaderReply
 no-slot number = record { refusal = number; taken = 0; slot = 0; owner = 0; mark = 0 }
 
@@ -48,6 +49,9 @@ floor-reply a = record { refusal = refusal-number a; found = found-number a; mar
 abbrev pub db-file-reply : Answer → DbFileReply
 db-file-reply a = record { refusal = refusal-number a; active = answer-number a }
 
+abbrev pub limit-reply : Answer → LimitReply
+limit-reply a = record { refusal = refusal-number a; limit = answer-number a }
+
 -- The reply tells what the call answers, and the call leaves this memory and this process.
 pub record Told {R : Type 0} (reply-of : Answer → R) (r : R) (m : Memory) (p : Process) (d : Done) : Type 0 where
   pub reply-told : r ≡ reply-of (d .answer)
@@ -68,3 +72,8 @@ RegistryReplied reply-of call b f o l g r b′ f′ o′ l′ g′ =
 abbrev pub MoveReplied : {R : Type 0} → (Answer → R) → Call → List ℕ → List ℕ → List SharedReadMark → R → List ℕ → Type 0
 MoveReplied reply-of call f o g r f′ =
     (z : Memory) (p : Process) → Told reply-of r (slots-in z (z .bitmap) f′ o) (registry-in p (p .local-readers) g) (after call (slots-in z (z .bitmap) f o) (registry-in p (p .local-readers) g))
+
+-- A limit is on any memory whose published frame is the number given, and changes no local owner.
+abbrev pub LimitReplied : {R : Type 0} → (Answer → R) → Call → ℕ → List ℕ → List ℕ → List ℕ → List ℕ → R → List ℕ → List ℕ → List ℕ → Type 0
+LimitReplied reply-of call published b f o l r b′ f′ o′ =
+    (z : Memory) (p : Process) → z .header .«max_frame» ≡ published → Told reply-of r (slots-in z b′ f′ o′) (locals-in p l) (after call (slots-in z b f o) (locals-in p l))

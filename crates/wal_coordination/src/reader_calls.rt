@@ -4,6 +4,8 @@ use crate::lock_reply::Mode;
 use reader_floor::floor;
 use reader_floor::floor::DbFileReader;
 use reader_floor::floor::MinFrame;
+use reader_floor::limit;
+use reader_floor::limit::Limit;
 use readers::register;
 use readers::register::Register;
 use readers::update::Release;
@@ -19,10 +21,11 @@ ghost use Rattle.wal_types.specs.Call.{slot-taken};
 ghost use Rattle.readers.specs.Register.{register-reader, register-answer};
 ghost use Rattle.readers.specs.Update.{update-reader, update-answer, unregister-reader, release-answer};
 ghost use Rattle.reader_floor.specs.Floor.{min-active-reader-frame, has-active-db-file-reader, min-frame-answer, db-file-answer};
+ghost use Rattle.reader_floor.specs.Limit.{copy-back-limit, limit-answer};
 ghost use Rattle.shared_marks.specs.Shared.{register-reader-for-snapshot, register-db-file-reader, unregister-reader-for-snapshot, share-answer};
 ghost use Rattle.wal_coordination.specs.Reply.{refusal-number};
 ghost use Rattle.wal_coordination.specs.LockReply.{mode-given, with-mode};
-ghost use Rattle.wal_coordination.specs.ReaderReply.{settings-given, no-slot, reader-reply, no-floor, floor-reply, db-file-reply, SlotsReplied, MoveReplied, RegistryReplied};
+ghost use Rattle.wal_coordination.specs.ReaderReply.{settings-given, no-slot, reader-reply, no-floor, floor-reply, db-file-reply, limit-reply, SlotsReplied, MoveReplied, RegistryReplied, LimitReplied};
 
 // The answer of a registration or a move in numbers. refusal: 0, or the number of the refusal. taken: 1 if a slot is held,
 // and then slot, owner and mark are its number, its owner and its mark; else 0, and they are 0.
@@ -48,6 +51,13 @@ pub struct FloorReply {
 pub struct DbFileReply {
     pub refusal: u32,
     pub active: u32,
+}
+
+// The answer of the copy-back limit in numbers. limit is the last frame that may be copied, 0 after a refusal.
+#[repr(C)]
+pub struct LimitReply {
+    pub refusal: u32,
+    pub limit: u64,
 }
 
 // The number of slots and the lock mode.
@@ -173,6 +183,21 @@ fn db_file_told(answer: DbFileReader) -> DbFileReply
         DbFileReader::Refused(number) => DbFileReply {
             refusal: number,
             active: 0,
+        },
+    }
+}
+
+fn limit_told(answer: Limit) -> LimitReply
+    ensures { λ r. ⌜ r ≡ limit-reply (limit-answer answer) ⌝ }
+{
+    match answer {
+        Limit::Upto(frame) => LimitReply {
+            refusal: 0,
+            limit: frame,
+        },
+        Limit::Refused(refused) => LimitReply {
+            refusal: refused,
+            limit: 0,
         },
     }
 }
@@ -410,4 +435,34 @@ pub extern "C" fn wal_has_active_db_file_reader(
         card,
     );
     db_file_told(answer)
+}
+
+// The frame up to which a checkpoint may copy frames back. max_frame is the published frame. card is as in
+// wal_register_reader.
+#[no_mangle]
+pub extern "C" fn wal_copy_back_limit(
+    n: usize,
+    mode: u32,
+    max_frame: u64,
+    bitmap: &mut [u64],
+    reader_frames: &mut [u64],
+    reader_owners: &mut [u64],
+    local_readers: &[u64],
+    card: &[u8],
+) -> LimitReply
+    ensures { λ r. ⌜ LimitReplied limit-reply (with-mode (mode-given mode) (λ given. copy-back-limit n given (now (card .entry)))) «max_frame» (now (bitmap .entry)) (now («reader_frames» .entry)) (now («reader_owners» .entry)) (now («local_readers» .entry)) r (now (bitmap .exit)) (now («reader_frames» .exit)) (now («reader_owners» .exit)) ⌝ }
+{
+    let given = settings_of(n, mode);
+    let lock_mode = given.mode;
+    let answer = limit::copy_back_limit(
+        given.n,
+        lock_mode,
+        max_frame,
+        bitmap,
+        reader_frames,
+        reader_owners,
+        local_readers,
+        card,
+    );
+    limit_told(answer)
 }
