@@ -1,4 +1,4 @@
--- Demand 3: its proof.
+-- Demand 3: its proof, and a worked sequence.
 pub mod SlotsAside
 pub mod SlotsCells
 pub mod SlotsStep

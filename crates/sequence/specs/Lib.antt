@@ -1,4 +1,4 @@
--- Demand 3: sequences of calls, the book, holds, and the theorem's statement.
+-- Demand 3: sequences of calls, the book, holds, the theorem's statement, and a worked sequence.
 pub mod Sequence
 pub mod Book
 pub mod Hold
