@@ -1,0 +1,283 @@
+/* The shared frame index of a write-ahead log, its reader slots, locks and counters.
+ *
+ * Link with libwal_coordination.a, which ./build proves and writes. x86-64, System V calling convention; usize is size_t.
+ *
+ * What the caller keeps to. The library is proved for any numbers and any contents of the memory that it is lent; these
+ * points it cannot see:
+ *
+ *   - A slice is a pointer and a count of elements. The pointer is aligned and not null, also where the count is 0, and
+ *     all of its elements are the caller's to lend until the call returns.
+ *   - Parts lent to one call do not overlap, and nothing else reads or writes them during the call. Processes that share
+ *     memory make one call at a time: a lock of their own around each call sees to it.
+ *   - All calls on one memory are given the same settings. A process has one set of own cells and one registry.
+ *   - Lock answers are true for the whole call: 0 busy, 1 granted, 2 error. A card is a row of such bytes, one for each
+ *     slot. Locks that were granted for the call and that its answer does not name are freed by the caller.
+ *
+ * Every call ends. A refused call answers the number of its refusal alone and changes nothing (docs/REFUSALS.md); 0 means
+ * accepted. The comment of a function is its contract in words; the contract itself is in crates/wal_coordination. */
+#ifndef WAL_COORDINATION_H
+#define WAL_COORDINATION_H
+
+#include <stddef.h>
+#include <stdint.h>
+
+#ifdef __cplusplus
+extern "C" {
+#endif
+
+/* The limits of the settings. */
+#define WAL_MAX_CAPACITY 65536 /* entries of the index */
+#define WAL_MAX_BLOCKS 16      /* blocks of the index, 4,096 entries each */
+#define WAL_MAX_SLOTS 256      /* reader slots */
+
+/* A process lends 4,096 cells of pages and frames and 8,192 of hash for each block that the index may have. */
+#define WAL_BLOCK_ENTRIES 4096
+#define WAL_BLOCK_HASH_CELLS 8192
+
+/* The frame of a reader slot without a reader. */
+#define WAL_UNUSED UINT64_MAX
+
+/* Lock modes. */
+enum { WAL_LINUX_OFD = 0, WAL_PROCESS_SCOPED_FCNTL = 1 };
+
+/* Lock answers. */
+enum { WAL_BUSY = 0, WAL_GRANTED = 1, WAL_LOCK_ERROR = 2 };
+
+/* Refusals. */
+enum {
+    WAL_REFUSED_SETTINGS = 1,
+    WAL_REFUSED_SHORT_MEMORY = 2,
+    WAL_REFUSED_FRAME_ORDER = 3,
+    WAL_REFUSED_HASH_FULL = 4,
+    WAL_REFUSED_SHORT_LIST = 5,
+    WAL_REFUSED_SLOT_NUMBER = 6,
+    WAL_REFUSED_NOT_HELD = 7,
+    WAL_REFUSED_OTHER_OWNER = 8,
+    WAL_REFUSED_NO_OWNER = 9,
+    WAL_REFUSED_UNUSED_MARK = 10,
+    WAL_REFUSED_SHARED_SLOT = 11,
+    WAL_REFUSED_NO_SUCH_MARK = 12,
+    WAL_REFUSED_REGISTRY = 13,
+    WAL_REFUSED_CARD = 14,
+    WAL_REFUSED_PROBE = 15
+};
+
+/* The header of the shared memory. Fresh: frame_index_blocks is the number of starting blocks, all else 0. */
+struct wal_header {
+    uint32_t frame_index_blocks;
+    uint32_t frame_index_len;
+    uint32_t frame_index_overflowed;
+    uint64_t max_frame; /* the published frame */
+    uint64_t nbackfills;
+    uint64_t transaction_count;
+    uint64_t visibility_generation;
+    uint32_t checkpoint_seq;
+    uint32_t checkpoint_epoch;
+    uint32_t checksum_1;
+    uint32_t checksum_2;
+    uint64_t writer_owner;
+    uint64_t checkpoint_owner;
+};
+
+/* A record of a process's registry of shared marks. With 0 holders it is empty. Fresh: all 0. */
+struct wal_shared_read_mark {
+    uint64_t mark;
+    uint32_t slot;
+    uint64_t owner;
+    uint32_t holders;
+};
+
+/* An owner: the process id in the high 32 bits, the instance id in the low 32. 0 is no owner. */
+uint64_t wal_owner_new(uint32_t pid, uint32_t instance_id);
+uint32_t wal_owner_pid(uint64_t owner);
+uint32_t wal_owner_instance_id(uint64_t owner);
+
+/* --- The header ---------------------------------------------------------------------------------------------------- */
+
+/* Publishes a committed transaction: max_frame and transaction_count are raised to these numbers if those are higher, the
+ * checksums stored if max_frame is at least the published one, visibility_generation raised by one. */
+void wal_publish_commit(struct wal_header *header, uint64_t max_frame, uint32_t checksum_1, uint32_t checksum_2,
+                        uint64_t transaction_count);
+
+/* Stores how many frames are copied to the database file. */
+void wal_publish_backfill(struct wal_header *header, uint64_t nbackfills);
+
+/* Raise checkpoint_seq, answering the new number, and checkpoint_epoch, answering the old one. 4,294,967,295 goes to 0. */
+uint32_t wal_bump_checkpoint_seq(struct wal_header *header);
+uint32_t wal_bump_checkpoint_epoch(struct wal_header *header);
+
+/* A lock call's answer. answer: 1 if the lock was taken or released, else 0. local_owner: this process's own cell for the
+ * lock, as the call leaves it. Store it. */
+struct wal_lock_reply {
+    uint32_t refusal;
+    uint32_t answer;
+    uint64_t local_owner;
+};
+
+/* Take the writer, or the checkpoint lock: answer 0 if it is held here (local_owner is not 0) or the card is not 1; else
+ * the owner is stored in the header and in the own cell. Refusals 9, 14. */
+struct wal_lock_reply wal_try_acquire_writer(struct wal_header *header, uint64_t local_owner, uint64_t owner,
+                                             uint8_t card);
+struct wal_lock_reply wal_try_acquire_checkpoint(struct wal_header *header, uint64_t local_owner, uint64_t owner,
+                                                 uint8_t card);
+
+/* Release it: both cells become 0. WAL_PROCESS_SCOPED_FCNTL compares the owner with the own cell. Refusals 1, 7, 8, 9. */
+struct wal_lock_reply wal_release_writer(uint32_t mode, struct wal_header *header, uint64_t local_owner, uint64_t owner);
+struct wal_lock_reply wal_release_checkpoint(uint32_t mode, struct wal_header *header, uint64_t local_owner,
+                                             uint64_t owner);
+
+/* --- The frame index ----------------------------------------------------------------------------------------------- */
+
+/* The answer of a record (1 stored, 0 dropped) or of a rollback (the length kept). */
+struct wal_index_reply {
+    uint32_t refusal;
+    uint32_t answer;
+};
+
+/* Appends the entry (page_id, frame_id). Frame 1 with nothing published first empties the index. Dropped, with the
+ * overflow flag set, if the capacity is reached, or the blocks are full and may not grow: grow is the file's answer to a
+ * growth by one block, 0 for no. Refusals 1, 2, 3, 4. */
+struct wal_index_reply wal_record_frame(uint32_t capacity, uint32_t max_blocks, struct wal_header *header,
+                                        uint64_t *pages, size_t pages_len, uint64_t *frames, size_t frames_len,
+                                        uint16_t *hash, size_t hash_len, uint64_t page_id, uint64_t frame_id,
+                                        uint32_t grow);
+
+/* Drops entries from the end while the last frame is above max_frame. Refusals 1, 2. */
+struct wal_index_reply wal_rollback_frames(uint32_t capacity, uint32_t max_blocks, struct wal_header *header,
+                                           const uint64_t *pages, size_t pages_len, const uint64_t *frames,
+                                           size_t frames_len, uint16_t *hash, size_t hash_len, uint64_t max_frame);
+
+/* found: 1 if there is a frame, and then frame is it; else both are 0. */
+struct wal_find_reply {
+    uint32_t refusal;
+    uint32_t found;
+    uint64_t frame;
+};
+
+/* The latest frame of a page from min_frame to max_frame. With a watermark (has_watermark not 0) that is the upper bound
+ * and the lower one is 0; a watermark below min_frame finds nothing. Nothing changes. Refusals 1, 2. */
+struct wal_find_reply wal_find_frame(uint32_t capacity, uint32_t max_blocks, struct wal_header header,
+                                     const uint64_t *pages, size_t pages_len, const uint64_t *frames,
+                                     size_t frames_len, const uint16_t *hash, size_t hash_len, uint64_t page_id,
+                                     uint64_t min_frame, uint64_t max_frame, uint32_t has_watermark,
+                                     uint64_t watermark);
+
+/* count: how many pairs were written. */
+struct wal_list_reply {
+    uint32_t refusal;
+    uint64_t count;
+};
+
+/* Lists each page's latest frame up to max_frame, if it is at least min_frame, by rising page: pages to out_pages, frames
+ * to out_frames. Cells past the pairs are not written. It uses less than 300 KB of stack. Refusals 1, 2, 5. */
+struct wal_list_reply wal_iter_latest_frames(uint32_t capacity, uint32_t max_blocks, struct wal_header header,
+                                             const uint64_t *pages, size_t pages_len, const uint64_t *frames,
+                                             size_t frames_len, const uint16_t *hash, size_t hash_len,
+                                             uint64_t min_frame, uint64_t max_frame, uint64_t *out_pages,
+                                             size_t out_pages_len, uint64_t *out_frames, size_t out_frames_len);
+
+/* --- Readers --------------------------------------------------------------------------------------------------------
+ *
+ * n is the number of slots. bitmap: (n + 63) / 64 words, bit i % 64 of word i / 64 is 1 where slot i is free; fresh: those
+ * bits 1. reader_frames and reader_owners: n cells; fresh: WAL_UNUSED and 0. local_readers: this process's own n cells,
+ * 0 where the slot is not held here. registry: this process's n records. card: n bytes. */
+
+/* taken: 1 if the reader has a slot; then slot, owner and mark are its number, its owner and its mark. Else all are 0. */
+struct wal_reader_reply {
+    uint32_t refusal;
+    uint32_t taken;
+    uint64_t slot;
+    uint64_t owner;
+    uint64_t mark;
+};
+
+/* Takes the lowest free slot that is granted and not held here, and if there is none reclaims the slots of dead readers
+ * and tries again. Nothing is written if none is taken. Refusals 1, 2, 9, 10, 14. */
+struct wal_reader_reply wal_register_reader(size_t n, uint32_t mode, uint64_t *bitmap, size_t bitmap_len,
+                                            uint64_t *reader_frames, size_t reader_frames_len,
+                                            uint64_t *reader_owners, size_t reader_owners_len,
+                                            uint64_t *local_readers, size_t local_readers_len, const uint8_t *card,
+                                            size_t card_len, uint64_t owner, uint64_t mark);
+
+/* Moves a reader to another mark. Refusals 1, 2, 6, 8, 9, 10, 11. */
+struct wal_reader_reply wal_update_reader(size_t n, uint64_t *reader_frames, size_t reader_frames_len,
+                                          const uint64_t *reader_owners, size_t reader_owners_len,
+                                          const struct wal_shared_read_mark *registry, size_t registry_len,
+                                          size_t slot, uint64_t owner, uint64_t mark);
+
+/* Releases a reader's slot. Answers 0 or the refusal: 1, 2, 6, 7, 8, 9, 11. */
+uint32_t wal_unregister_reader(size_t n, uint32_t mode, uint64_t *bitmap, size_t bitmap_len, uint64_t *reader_frames,
+                               size_t reader_frames_len, uint64_t *reader_owners, size_t reader_owners_len,
+                               uint64_t *local_readers, size_t local_readers_len,
+                               const struct wal_shared_read_mark *registry, size_t registry_len, size_t slot,
+                               uint64_t owner);
+
+/* Takes a slot at a mark, or joins the connections of this process that share the mark already: the answer is then the
+ * first holder's slot and owner. Refusals 1, 2, 9, 10, 13, 14. */
+struct wal_reader_reply wal_register_reader_for_snapshot(
+    size_t n, uint32_t mode, uint64_t *bitmap, size_t bitmap_len, uint64_t *reader_frames, size_t reader_frames_len,
+    uint64_t *reader_owners, size_t reader_owners_len, uint64_t *local_readers, size_t local_readers_len,
+    struct wal_shared_read_mark *registry, size_t registry_len, const uint8_t *card, size_t card_len, uint64_t owner,
+    uint64_t mark);
+
+/* The same at mark 0: a reader of the database file alone. */
+struct wal_reader_reply wal_register_db_file_reader(
+    size_t n, uint32_t mode, uint64_t *bitmap, size_t bitmap_len, uint64_t *reader_frames, size_t reader_frames_len,
+    uint64_t *reader_owners, size_t reader_owners_len, uint64_t *local_readers, size_t local_readers_len,
+    struct wal_shared_read_mark *registry, size_t registry_len, const uint8_t *card, size_t card_len, uint64_t owner);
+
+/* Releases a shared mark: a holder less, and the last one empties the slot. The slot's lock is the caller's to free when
+ * its own cell has become 0. Answers 0 or the refusal: 1, 2, 6, 7, 8, 9, 10, 12. */
+uint32_t wal_unregister_reader_for_snapshot(size_t n, uint32_t mode, uint64_t *bitmap, size_t bitmap_len,
+                                            uint64_t *reader_frames, size_t reader_frames_len,
+                                            uint64_t *reader_owners, size_t reader_owners_len,
+                                            uint64_t *local_readers, size_t local_readers_len,
+                                            struct wal_shared_read_mark *registry, size_t registry_len, uint64_t mark,
+                                            size_t slot, uint64_t owner);
+
+/* found: 1 if there is a floor, and then mark is it; else both are 0. */
+struct wal_floor_reply {
+    uint32_t refusal;
+    uint32_t found;
+    uint64_t mark;
+};
+
+/* The floor: the least mark above 0 that is still held. Slots of dead readers that it meets are reclaimed.
+ * Refusals 1, 2, 14, 15. */
+struct wal_floor_reply wal_min_active_reader_frame(size_t n, uint32_t mode, uint64_t *bitmap, size_t bitmap_len,
+                                                   uint64_t *reader_frames, size_t reader_frames_len,
+                                                   uint64_t *reader_owners, size_t reader_owners_len,
+                                                   const uint64_t *local_readers, size_t local_readers_len,
+                                                   const uint8_t *card, size_t card_len);
+
+struct wal_limit_reply {
+    uint32_t refusal;
+    uint64_t limit;
+};
+
+/* The copy-back limit: the lesser of max_frame, the published frame, and the floor; max_frame if there is no floor. It
+ * reclaims and refuses as the floor does. */
+struct wal_limit_reply wal_copy_back_limit(size_t n, uint32_t mode, uint64_t max_frame, uint64_t *bitmap,
+                                           size_t bitmap_len, uint64_t *reader_frames, size_t reader_frames_len,
+                                           uint64_t *reader_owners, size_t reader_owners_len,
+                                           const uint64_t *local_readers, size_t local_readers_len,
+                                           const uint8_t *card, size_t card_len);
+
+/* active: 1 if some live reader, in any process, reads only the database file. */
+struct wal_db_file_reply {
+    uint32_t refusal;
+    uint32_t active;
+};
+
+/* Slots of dead readers that it meets are reclaimed. Refusals 1, 2, 14, 15. */
+struct wal_db_file_reply wal_has_active_db_file_reader(size_t n, uint32_t mode, uint64_t *bitmap, size_t bitmap_len,
+                                                       uint64_t *reader_frames, size_t reader_frames_len,
+                                                       uint64_t *reader_owners, size_t reader_owners_len,
+                                                       const uint64_t *local_readers, size_t local_readers_len,
+                                                       const uint8_t *card, size_t card_len);
+
+#ifdef __cplusplus
+}
+#endif
+
+#endif

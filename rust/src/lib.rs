@@ -1,0 +1,46 @@
+//! The shared frame index of a write-ahead log, its reader slots, locks and counters.
+//!
+//! Several processes share a [`Memory`]. Each has a [`Process`]: its own cells, its registry of shared marks, and the
+//! [`ByteLocks`] that the processes lock each other out with. The calls are those of turso_core's
+//! `shared_wal_coordination`, by its names; behind each stands a C function of the proved static library.
+//!
+//! ```
+//! use wal_coordination::{OneProcess, OwnedMemory, Process, Recorded, Settings, SharedOwnerRecord, SharedWalOwnershipMode};
+//!
+//! let settings = Settings { capacity: 4096, max_blocks: 1, reader_slots: 4, mode: SharedWalOwnershipMode::LinuxOfd };
+//! let mut owned = OwnedMemory::fresh(&settings, 1);
+//! let mut memory = owned.lend();
+//! let mut process = Process::new(settings, OneProcess);
+//! let owner = SharedOwnerRecord::new(std::process::id(), 1);
+//!
+//! // A writer records frame 1 of page 7 and publishes it.
+//! assert_eq!(process.record_frame(&mut memory, 7, 1, false), Ok(Recorded::Stored));
+//! process.publish_commit(&mut memory, 1, (0, 0), 1);
+//!
+//! // A reader takes a mark there. Frame 2 of the page comes later: up to its mark the reader sees frame 1.
+//! let reader = process.register_reader_for_snapshot(&mut memory, owner, 1)?.expect("a slot is free");
+//! assert_eq!(process.record_frame(&mut memory, 7, 2, false), Ok(Recorded::Stored));
+//! assert_eq!(process.find_frame(&memory, 7, 1, reader.max_frame, None), Ok(Some(1)));
+//!
+//! // Frames above the reader's mark are not copied back before it is released.
+//! process.publish_commit(&mut memory, 2, (0, 0), 2);
+//! assert_eq!(process.copy_back_limit(&mut memory), Ok(1));
+//! process.unregister_reader_for_snapshot(&mut memory, reader)?;
+//! assert_eq!(process.copy_back_limit(&mut memory), Ok(2));
+//! # Ok::<(), wal_coordination::Refusal>(())
+//! ```
+#![deny(unsafe_code)]
+
+mod locks;
+mod memory;
+mod process;
+mod raw;
+mod refusal;
+
+pub use locks::{ByteLocks, LockAnswer, LockByte, OneProcess};
+pub use memory::{
+    Header, Memory, OwnedMemory, Settings, SharedOwnerRecord, SharedReadMark, SharedReaderSlot, SharedWalOwnershipMode,
+    Slot, BLOCK_ENTRIES, BLOCK_HASH_CELLS, UNUSED_READER_FRAME,
+};
+pub use process::{Process, Recorded};
+pub use refusal::Refusal;

@@ -1,0 +1,431 @@
+//! The calls.
+
+use crate::locks::{ByteLocks, LockAnswer, LockByte};
+use crate::memory::{
+    Memory, Settings, SharedOwnerRecord, SharedReadMark, SharedReaderSlot, SharedWalOwnershipMode, Slot,
+    UNUSED_READER_FRAME,
+};
+use crate::raw::{self, Lock, Own};
+use crate::refusal::Refusal;
+
+/// What became of a recorded frame.
+#[derive(Clone, Copy, Debug, PartialEq, Eq)]
+pub enum Recorded {
+    /// It is in the index.
+    Stored,
+    /// The index is full: the overflow flag is set, and lookups no longer see every frame.
+    Dropped,
+}
+
+/// A process that shares the memory: its own cells, its registry of shared marks, and its locks. All calls of a process on
+/// a memory go through one of these.
+pub struct Process<L> {
+    settings: Settings,
+    local_readers: Vec<u64>,
+    local_writer: u64,
+    local_checkpoint: u64,
+    registry: Vec<SharedReadMark>,
+    locks: L,
+}
+
+/// Nothing, or the refusal of a number.
+fn accepted(refusal: u32) -> Result<(), Refusal> {
+    match refusal {
+        0 => Ok(()),
+        number => Err(Refusal::from_number(number).expect("a refusal has a number from 1 to 15")),
+    }
+}
+
+fn reader_slot(reply: raw::ReaderReply) -> Result<Option<SharedReaderSlot>, Refusal> {
+    accepted(reply.refusal)?;
+    Ok((reply.taken == 1).then(|| SharedReaderSlot {
+        slot: Slot(reply.slot as usize),
+        owner: SharedOwnerRecord(reply.owner),
+        max_frame: reply.mark,
+    }))
+}
+
+impl<L: ByteLocks> Process<L> {
+    /// A process that holds nothing. The settings are those of all processes on the memory.
+    pub fn new(settings: Settings, locks: L) -> Self {
+        Process {
+            settings,
+            local_readers: vec![0; settings.reader_slots],
+            local_writer: 0,
+            local_checkpoint: 0,
+            registry: vec![SharedReadMark::default(); settings.reader_slots],
+            locks,
+        }
+    }
+
+    /// Its settings.
+    pub fn settings(&self) -> &Settings {
+        &self.settings
+    }
+
+    /// Its registry: one record for each mark that connections of this process share, those with 0 holders empty.
+    pub fn registry(&self) -> &[SharedReadMark] {
+        &self.registry
+    }
+
+    /// Appends a frame of a page to the index. `grow` is the file's answer to a growth by one block, if one is needed.
+    ///
+    /// Frame 1 with nothing published empties the index first. Other frames must be above the last one.
+    ///
+    /// ```
+    /// # use wal_coordination::*;
+    /// # let settings = Settings { capacity: 1, max_blocks: 1, reader_slots: 1, mode: SharedWalOwnershipMode::LinuxOfd };
+    /// # let mut owned = OwnedMemory::fresh(&settings, 1);
+    /// # let mut memory = owned.lend();
+    /// let process = Process::new(settings, OneProcess); // a capacity of 1
+    /// assert_eq!(process.record_frame(&mut memory, 7, 1, true), Ok(Recorded::Stored));
+    /// assert_eq!(process.record_frame(&mut memory, 8, 2, true), Ok(Recorded::Dropped));
+    /// assert_eq!(memory.header.frame_index_overflowed, 1);
+    /// ```
+    pub fn record_frame(
+        &self,
+        memory: &mut Memory<'_>,
+        page_id: u64,
+        frame_id: u64,
+        grow: bool,
+    ) -> Result<Recorded, Refusal> {
+        let reply = raw::record_frame(&self.settings, memory, page_id, frame_id, grow);
+        accepted(reply.refusal)?;
+        Ok(if reply.answer == 1 { Recorded::Stored } else { Recorded::Dropped })
+    }
+
+    /// Drops the entries from the end whose frame is above `max_frame`. Answers how many are kept.
+    pub fn rollback_frames(&self, memory: &mut Memory<'_>, max_frame: u64) -> Result<u32, Refusal> {
+        let reply = raw::rollback_frames(&self.settings, memory, max_frame);
+        accepted(reply.refusal)?;
+        Ok(reply.answer)
+    }
+
+    /// The latest frame of a page from `min_frame` to `max_frame`. With a watermark that is the upper bound instead, and
+    /// a frame below `min_frame` may be the answer.
+    ///
+    /// ```
+    /// # use wal_coordination::*;
+    /// # let settings = Settings { capacity: 64, max_blocks: 1, reader_slots: 1, mode: SharedWalOwnershipMode::LinuxOfd };
+    /// # let mut owned = OwnedMemory::fresh(&settings, 1);
+    /// # let mut memory = owned.lend();
+    /// # let process = Process::new(settings, OneProcess);
+    /// for (page, frame) in [(7, 1), (8199, 2), (7, 3)] {
+    ///     process.record_frame(&mut memory, page, frame, false)?;
+    /// }
+    /// assert_eq!(process.find_frame(&memory, 7, 1, 3, None), Ok(Some(3)));
+    /// assert_eq!(process.find_frame(&memory, 7, 2, 2, None), Ok(None));
+    /// assert_eq!(process.find_frame(&memory, 7, 2, 3, Some(2)), Ok(Some(1)));
+    /// # Ok::<(), Refusal>(())
+    /// ```
+    pub fn find_frame(
+        &self,
+        memory: &Memory<'_>,
+        page_id: u64,
+        min_frame: u64,
+        max_frame: u64,
+        frame_watermark: Option<u64>,
+    ) -> Result<Option<u64>, Refusal> {
+        let reply = raw::find_frame(&self.settings, memory, page_id, min_frame, max_frame, frame_watermark);
+        accepted(reply.refusal)?;
+        Ok((reply.found == 1).then_some(reply.frame))
+    }
+
+    /// Each page's latest frame up to `max_frame`, if it is at least `min_frame`: pairs of page and frame, by rising page.
+    ///
+    /// ```
+    /// # use wal_coordination::*;
+    /// # let settings = Settings { capacity: 64, max_blocks: 1, reader_slots: 1, mode: SharedWalOwnershipMode::LinuxOfd };
+    /// # let mut owned = OwnedMemory::fresh(&settings, 1);
+    /// # let mut memory = owned.lend();
+    /// # let process = Process::new(settings, OneProcess);
+    /// for (page, frame) in [(8199, 1), (7, 2), (8199, 3)] {
+    ///     process.record_frame(&mut memory, page, frame, false)?;
+    /// }
+    /// assert_eq!(process.iter_latest_frames(&memory, 1, 3), Ok(vec![(7, 2), (8199, 3)]));
+    /// # Ok::<(), Refusal>(())
+    /// ```
+    pub fn iter_latest_frames(
+        &self,
+        memory: &Memory<'_>,
+        min_frame: u64,
+        max_frame: u64,
+    ) -> Result<Vec<(u64, u64)>, Refusal> {
+        // There are no more pairs than entries, and no more entries than cells.
+        let room = (memory.header.frame_index_len as usize).min(memory.frames.len());
+        let (mut pages, mut frames) = (vec![0; room], vec![0; room]);
+        let count = self.iter_latest_frames_into(memory, min_frame, max_frame, &mut pages, &mut frames)?;
+        Ok(pages.into_iter().zip(frames).take(count).collect())
+    }
+
+    /// The same into cells of the caller's, without allocation. Answers how many pairs; the cells after them are as they were.
+    pub fn iter_latest_frames_into(
+        &self,
+        memory: &Memory<'_>,
+        min_frame: u64,
+        max_frame: u64,
+        pages: &mut [u64],
+        frames: &mut [u64],
+    ) -> Result<usize, Refusal> {
+        let reply = raw::iter_latest_frames(&self.settings, memory, min_frame, max_frame, pages, frames);
+        accepted(reply.refusal)?;
+        Ok(reply.count as usize)
+    }
+
+    /// Publishes a committed transaction. The published frame and the transaction count are never lowered.
+    pub fn publish_commit(
+        &self,
+        memory: &mut Memory<'_>,
+        max_frame: u64,
+        checksums: (u32, u32),
+        transaction_count: u64,
+    ) {
+        raw::publish_commit(memory.header, max_frame, checksums, transaction_count);
+    }
+
+    /// Publishes how many frames are copied to the database file.
+    pub fn publish_backfill(&self, memory: &mut Memory<'_>, nbackfills: u64) {
+        raw::publish_backfill(memory.header, nbackfills);
+    }
+
+    /// Raises the checkpoint number and answers the new one.
+    pub fn bump_checkpoint_seq(&self, memory: &mut Memory<'_>) -> u32 {
+        raw::bump_checkpoint_seq(memory.header)
+    }
+
+    /// Raises the checkpoint epoch and answers the old one.
+    pub fn bump_checkpoint_epoch(&self, memory: &mut Memory<'_>) -> u32 {
+        raw::bump_checkpoint_epoch(memory.header)
+    }
+
+    /// Takes the writer lock. `false` if it is held, here or by another process.
+    pub fn try_acquire_writer(&mut self, memory: &mut Memory<'_>, owner: SharedOwnerRecord) -> Result<bool, Refusal> {
+        self.try_acquire(Lock::Writer, memory, owner)
+    }
+
+    /// Releases the writer lock.
+    pub fn release_writer(&mut self, memory: &mut Memory<'_>, owner: SharedOwnerRecord) -> Result<(), Refusal> {
+        self.release(Lock::Writer, memory, owner)
+    }
+
+    /// Takes the checkpoint lock. `false` if it is held, here or by another process.
+    pub fn try_acquire_checkpoint(
+        &mut self,
+        memory: &mut Memory<'_>,
+        owner: SharedOwnerRecord,
+    ) -> Result<bool, Refusal> {
+        self.try_acquire(Lock::Checkpoint, memory, owner)
+    }
+
+    /// Releases the checkpoint lock.
+    pub fn release_checkpoint(&mut self, memory: &mut Memory<'_>, owner: SharedOwnerRecord) -> Result<(), Refusal> {
+        self.release(Lock::Checkpoint, memory, owner)
+    }
+
+    fn cell(&mut self, lock: Lock) -> (&mut u64, LockByte) {
+        match lock {
+            Lock::Writer => (&mut self.local_writer, LockByte::Writer),
+            Lock::Checkpoint => (&mut self.local_checkpoint, LockByte::Checkpoint),
+        }
+    }
+
+    fn try_acquire(&mut self, lock: Lock, memory: &mut Memory<'_>, owner: SharedOwnerRecord) -> Result<bool, Refusal> {
+        let (&mut held, byte) = self.cell(lock);
+        let card = if held == 0 { self.locks.try_lock(byte) } else { LockAnswer::Busy };
+        let reply = raw::try_acquire(lock, memory.header, held, owner.0, card as u8);
+        *self.cell(lock).0 = reply.local_owner;
+        if card == LockAnswer::Granted && reply.answer == 0 {
+            self.locks.unlock(byte);
+        }
+        accepted(reply.refusal)?;
+        Ok(reply.answer == 1)
+    }
+
+    fn release(&mut self, lock: Lock, memory: &mut Memory<'_>, owner: SharedOwnerRecord) -> Result<(), Refusal> {
+        let (&mut held, byte) = self.cell(lock);
+        let reply = raw::release(lock, &self.settings, memory.header, held, owner.0);
+        *self.cell(lock).0 = reply.local_owner;
+        accepted(reply.refusal)?;
+        self.locks.unlock(byte);
+        Ok(())
+    }
+
+    /// Takes a reader slot of its own at a mark. `None` if every slot is taken.
+    ///
+    /// ```
+    /// # use wal_coordination::*;
+    /// # let settings = Settings { capacity: 64, max_blocks: 1, reader_slots: 1, mode: SharedWalOwnershipMode::LinuxOfd };
+    /// # let mut owned = OwnedMemory::fresh(&settings, 1);
+    /// # let mut memory = owned.lend();
+    /// # let mut process = Process::new(settings, OneProcess);
+    /// let owner = SharedOwnerRecord::new(7, 1);
+    /// let reader = process.register_reader(&mut memory, owner, 5)?.expect("the one slot is free");
+    /// assert_eq!(process.register_reader(&mut memory, owner, 6), Ok(None));
+    /// assert_eq!(process.min_active_reader_frame(&mut memory), Ok(Some(5)));
+    /// process.unregister_reader(&mut memory, reader)?;
+    /// assert_eq!(process.unregister_reader(&mut memory, reader), Err(Refusal::NotHeld));
+    /// # Ok::<(), Refusal>(())
+    /// ```
+    pub fn register_reader(
+        &mut self,
+        memory: &mut Memory<'_>,
+        owner: SharedOwnerRecord,
+        max_frame: u64,
+    ) -> Result<Option<SharedReaderSlot>, Refusal> {
+        let card = self.registration_card(memory);
+        let (settings, own) = (self.settings, self.own());
+        let reply = reader_slot(raw::register_reader(&settings, memory, own, &card, owner.0, max_frame));
+        self.unlock_all_but(&card, reply.ok().flatten());
+        reply
+    }
+
+    /// Moves a reader to another mark.
+    pub fn update_reader(
+        &mut self,
+        memory: &mut Memory<'_>,
+        reader: SharedReaderSlot,
+        max_frame: u64,
+    ) -> Result<SharedReaderSlot, Refusal> {
+        let (settings, own) = (self.settings, self.own());
+        let reply = raw::update_reader(&settings, memory, own, reader.slot.0, reader.owner.0, max_frame);
+        Ok(reader_slot(reply)?.expect("an accepted move answers its slot"))
+    }
+
+    /// Releases a reader's slot.
+    pub fn unregister_reader(&mut self, memory: &mut Memory<'_>, reader: SharedReaderSlot) -> Result<(), Refusal> {
+        let (settings, own) = (self.settings, self.own());
+        accepted(raw::unregister_reader(&settings, memory, own, reader.slot.0, reader.owner.0))?;
+        self.locks.unlock(LockByte::Reader(reader.slot.0));
+        Ok(())
+    }
+
+    /// Takes a reader slot at a mark, or joins the connections of this process that share the mark already: then the
+    /// answer has the first holder's slot and owner.
+    pub fn register_reader_for_snapshot(
+        &mut self,
+        memory: &mut Memory<'_>,
+        owner: SharedOwnerRecord,
+        max_frame: u64,
+    ) -> Result<Option<SharedReaderSlot>, Refusal> {
+        let card = self.shared_card(memory, max_frame);
+        let (settings, own) = (self.settings, self.own());
+        let reply = raw::register_reader_for_snapshot(&settings, memory, own, &card, owner.0, max_frame);
+        let reply = reader_slot(reply);
+        self.unlock_all_but(&card, reply.ok().flatten());
+        reply
+    }
+
+    /// Registers a reader of the database file alone, at mark 0. All of them in this process share one slot.
+    pub fn register_db_file_reader(
+        &mut self,
+        memory: &mut Memory<'_>,
+        owner: SharedOwnerRecord,
+    ) -> Result<Option<SharedReaderSlot>, Refusal> {
+        let card = self.shared_card(memory, 0);
+        let (settings, own) = (self.settings, self.own());
+        let reply = reader_slot(raw::register_db_file_reader(&settings, memory, own, &card, owner.0));
+        self.unlock_all_but(&card, reply.ok().flatten());
+        reply
+    }
+
+    /// Releases a shared mark. The last holder's release empties the slot.
+    pub fn unregister_reader_for_snapshot(
+        &mut self,
+        memory: &mut Memory<'_>,
+        reader: SharedReaderSlot,
+    ) -> Result<(), Refusal> {
+        let (settings, own) = (self.settings, self.own());
+        let SharedReaderSlot { slot, owner, max_frame } = reader;
+        accepted(raw::unregister_reader_for_snapshot(&settings, memory, own, max_frame, slot.0, owner.0))?;
+        if !self.holds(slot.0) {
+            self.locks.unlock(LockByte::Reader(slot.0));
+        }
+        Ok(())
+    }
+
+    /// The floor: the least mark above 0 that is still held, in any process. Slots of dead readers are reclaimed.
+    pub fn min_active_reader_frame(&mut self, memory: &mut Memory<'_>) -> Result<Option<u64>, Refusal> {
+        let card = self.probe_card(memory);
+        let reply = raw::min_active_reader_frame(&self.settings, memory, &self.local_readers, &card);
+        self.unlock_all_but(&card, None);
+        accepted(reply.refusal)?;
+        Ok((reply.found == 1).then_some(reply.mark))
+    }
+
+    /// The copy-back limit: frames up to it may be copied to the database file. It is the lesser of the published frame
+    /// and the floor, and reclaims as the floor does.
+    pub fn copy_back_limit(&mut self, memory: &mut Memory<'_>) -> Result<u64, Refusal> {
+        let card = self.probe_card(memory);
+        let reply = raw::copy_back_limit(&self.settings, memory, &self.local_readers, &card);
+        self.unlock_all_but(&card, None);
+        accepted(reply.refusal)?;
+        Ok(reply.limit)
+    }
+
+    /// Whether some live reader, in any process, reads only the database file. Slots of dead readers that it meets are
+    /// reclaimed.
+    pub fn has_active_db_file_reader(&mut self, memory: &mut Memory<'_>) -> Result<bool, Refusal> {
+        let card = self.probe_card(memory);
+        let reply = raw::has_active_db_file_reader(&self.settings, memory, &self.local_readers, &card);
+        self.unlock_all_but(&card, None);
+        accepted(reply.refusal)?;
+        Ok(reply.active == 1)
+    }
+
+    fn own(&mut self) -> Own<'_> {
+        Own { local_readers: &mut self.local_readers, registry: &mut self.registry }
+    }
+
+    fn holds(&self, slot: usize) -> bool {
+        self.local_readers.get(slot).is_some_and(|&owner| owner != 0)
+    }
+
+    /// The lock answers of a registration. Free slots are asked in order until one is granted, which is the one that the
+    /// call takes; only if none is, those that could be reclaimed. A slot that is not asked stands as busy.
+    fn registration_card(&mut self, memory: &Memory<'_>) -> Vec<u8> {
+        let mut card = vec![LockAnswer::Busy as u8; self.settings.reader_slots];
+        for free in [true, false] {
+            for slot in 0..card.len() {
+                if memory.slot_is_free(slot) == free && !self.holds(slot) {
+                    let answer = self.locks.try_lock(LockByte::Reader(slot));
+                    card[slot] = answer as u8;
+                    if free && answer == LockAnswer::Granted {
+                        return card;
+                    }
+                }
+            }
+        }
+        card
+    }
+
+    /// The same for a shared registration, which asks no lock where the mark is shared already.
+    fn shared_card(&mut self, memory: &Memory<'_>, mark: u64) -> Vec<u8> {
+        if self.registry.iter().any(|record| record.holders != 0 && record.mark == mark) {
+            return vec![LockAnswer::Busy as u8; self.settings.reader_slots];
+        }
+        self.registration_card(memory)
+    }
+
+    /// The lock answers of a floor: the slots with a reader that is not of this process are asked.
+    fn probe_card(&mut self, memory: &Memory<'_>) -> Vec<u8> {
+        let fcntl = self.settings.mode == SharedWalOwnershipMode::ProcessScopedFcntl;
+        let mut card = vec![LockAnswer::Busy as u8; self.settings.reader_slots];
+        for (slot, byte) in card.iter_mut().enumerate() {
+            let unused = memory.reader_frames.get(slot).is_none_or(|&frame| frame == UNUSED_READER_FRAME);
+            let ownerless = memory.reader_owners.get(slot).is_none_or(|&owner| owner == 0);
+            if !unused && !(fcntl && ownerless) && self.local_readers[slot] == 0 {
+                *byte = self.locks.try_lock(LockByte::Reader(slot)) as u8;
+            }
+        }
+        card
+    }
+
+    /// Gives back the locks of a card that were granted and that the answer does not name.
+    fn unlock_all_but(&mut self, card: &[u8], reader: Option<SharedReaderSlot>) {
+        for (slot, &byte) in card.iter().enumerate() {
+            if byte == LockAnswer::Granted as u8 && reader.is_none_or(|reader| reader.slot.0 != slot) {
+                self.locks.unlock(LockByte::Reader(slot));
+            }
+        }
+    }
+}
