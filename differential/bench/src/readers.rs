@@ -18,10 +18,8 @@ impl Table {
     pub fn new(n: u32, live: usize) -> Self {
         let settings = Settings { capacity: 1, max_blocks: 1, slots: n, mode: LINUX_OFD };
         let (mut slots, mut card) = (Slots::fresh(n as usize), vec![1; n as usize]);
-        for slot in 0..live {
-            take(&mut slots, slot);
-            card[slot] = 0;
-        }
+        (0..live).for_each(|slot| take(&mut slots, slot));
+        card[..live].fill(0);
         Self { settings, slots, card }
     }
 
