@@ -1,4 +1,5 @@
 -- `wal_coordination::header_calls::wal_bump_checkpoint_epoch` meets its contract: the walk of `Bumps` over its core. Assumes nothing.
+use mathlib.Core.Path.{refl}
 use Prim.Native.Nat.{ℕ}
 use contract.Running.{givenOf, tables, tablesOf}
 use denote.Triple.Spec.{tripleOf}
@@ -23,4 +24,4 @@ wal-bump-checkpoint-epoch-spec 𝓤 H 𝓜 𝓖 𝓡 =
     entered 𝓤 H (tripleOf 𝓤 H (𝓖 .A) entry.signature (entry.spec 𝓤 H (𝓖 .A) (𝓜 .mem) (𝓡 .run)))
     (tables 𝓤 H 𝓜 𝓡 code.env .C) (tables 𝓤 H 𝓜 𝓡 code.env .Λ) key.name code.function (code.unfolded 𝓤 H 𝓜 𝓡)
     (entry-meets Promised core.name 𝓤 H (𝓖 .A) (givenOf 𝓤 H 𝓜 𝓖) (tablesOf 𝓤 H 𝓜 (tables 𝓤 H 𝓜 𝓡 code.env))
-    (cited 𝓤 H (Core Promised 𝓤 H (𝓖 .A)) 𝓜 𝓡 code.env core.name core.routine code.calls-header·publish·bump-checkpoint-epoch (core-thm.met 𝓤 H 𝓜 𝓖 𝓡)))
+    (cited 𝓤 H (Core Promised 𝓤 H (𝓖 .A)) 𝓜 𝓡 code.env core.name core.routine refl (core-thm.met 𝓤 H 𝓜 𝓖 𝓡)))
