@@ -1,6 +1,6 @@
 -- A record and a rollback store, of the header's cells, to the index's only. Assumes nothing.
 use mathlib.Core.Path.{refl}
-use mathlib.Core.Bool.{Bool, true, false, not, cond}
+use mathlib.Core.Bool.{Bool, true, false, not}
 use mathlib.Core.List.{List}
 use Prim.Native.Nat.{ℕ, zero, suc, _+_, _-_, _*_}
 use lib.Dec.{eqb, ltb}

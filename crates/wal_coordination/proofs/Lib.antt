@@ -1,4 +1,6 @@
--- Laws of the replies.
+-- Walks for any core of a shape, and laws of the replies.
+mod LockParts
+mod IndexParts
 mod Bumps
 mod Acquires
 mod Releases

@@ -21,7 +21,7 @@ use Rattle.wal_coordination.specs.declared.lock_reply.LockReply.{LockRep
 use Rattle.wal_coordination.specs.declared.lock_reply.Mode.{Mode}
 use Rattle.wal_coordination.specs.declared.lock_reply.Mode.the-variants.{Given, Unknown}
 use Rattle.wal_coordination.specs.Reply.{refusal-number, answer-number}
-use Rattle.wal_coordination.specs.LockReply.{acquire-owners, release-owners, with-owners, with-mode, Told, LockReplied}
+use Rattle.wal_coordination.specs.LockReply.{acquire-owners, release-owners, with-owners, with-mode, LockReplied}
 use Rattle.wal_coordination.proofs.Touched.{taken-from, AllInside, outside-stays, all-of-unless}
 
 -- the header's cells that a lock call stores to

@@ -25,13 +25,13 @@ use types.Part.{agg, whole, sub, look-in}
 use types.Run.{look, look-raw, init, store, store-raw, forget, stop, hop, fld, from, load, addr, of-opd, and-then, no-more, assigns, land, returns, enter, alloc1, alloc0, params1, pass1, pass0, free1, free0}
 use types.SemTy.{Body}
 use sound.WpLaws.{FmC, fmOf, WpFn-mono}
-use denote.RattleType.{RattleType, owns}
+use denote.RattleType.{owns}
 use denote.Laws.{Is, shows}
 use denote.Memory.{mem}
 use denote.Plain.{uint-vals, uint-tells, uint-makes}
 use denote.Builtin.{u16, u32, u64}
 use denote.Ref.{RefT, MutRef, ptr-vals, mut-tells}
-use denote.Slice.{sliceVal, MutSlice, ShrSlice, Room, finally, slice-vals, shr-slice-copy, mut-slice-tells, shr-slice-tells}
+use denote.Slice.{sliceVal, MutSlice, Room, finally, slice-vals, mut-slice-tells}
 use denote.Signature.{plain}
 use denote.Steps.{only, opens, closes, owned, peeks, heard, nothing}
 use denote.Struct.Steps.{spelt}
@@ -42,7 +42,7 @@ use denote.Triple.Statement.{Contract, Triple}
 use denote.Triple.Call.{calls-at}
 use denote.Triple.Clauses.{ensured, lasts}
 use denote.Triple.Table.{entered, cited}
-use denote.Triple.Walked.{says, Stays, stay-ref, stay-none, stay-none-slice, gave-slice, walkOf, AllGo, goes-none, goes-none-slice, goes-gave-slice, goes-ref, Walks, ends-at, walked, walk-meets}
+use denote.Triple.Walked.{says, Stays, stay-ref, stay-none, gave-slice, walkOf, AllGo, goes-none, goes-gave-slice, goes-ref, Walks, ends-at, walked, walk-meets}
 use denote.Exit.{yes}
 use Rattle.wal_types.specs.declared.Header.{Header}
 use Rattle.wal_types.proofs.Header as T
@@ -58,6 +58,7 @@ use Rattle.wal_coordination.proofs.index_reply.IndexCells as K
 use Rattle.wal_coordination.proofs.index_reply.IndexCells.Laws as K′
 use Rattle.wal_coordination.proofs.index_reply.IndexLeft as B
 use Rattle.wal_coordination.proofs.index_reply.IndexLeft.Laws as B′
+use Rattle.wal_coordination.proofs.IndexParts.{R, mach, reply-val, header-of, reply-of}
 use Rattle.wal_coordination.proofs.index_reply.left as left
 use Rattle.wal_coordination.proofs.index_reply.left.Symbol as left-def
 use Rattle.wal_coordination.proofs.index_reply.left.Met as left-thm
@@ -69,16 +70,6 @@ use Rattle.wal_coordination.proofs.index_calls.wal_record_frame as entr
 use Rattle.wal_coordination.proofs.index_calls.wal_record_frame.Statement as stated
 use Rattle.wal_coordination.proofs.index_calls.wal_record_frame.Code as code
 
--- the header's row; the machine values of a header and of a reply
-abbrev R : RattleType
-R = T.the-row
-
-abbrev mach : Header → Val
-mach h = StructLaws.val T.the-type T′.the-laws h
-
-abbrev reply-val : IndexReply → Val
-reply-val r = StructLaws.val Rep.the-type Rep′.the-laws r
-
 -- what lies behind the header's parameter and what the unique slices hold can differ at the end
 abbrev stayed : Stays (entry.ended .signature .params) (entry.ended .kept)
 stayed = (stay-none (λ _. u32) yes, (stay-none (λ _. u32) yes, (stay-ref (0 ∷ []) tt (plain (λ _. R)), (gave-slice (1 ∷ []) tt (plain (λ _. u64)), (gave-slice (2 ∷ []) tt (plain (λ _. u64)), (gave-slice (3 ∷ []) tt (plain (λ _. u16)), (stay-none (λ _. u64) yes, (stay-none (λ _. u64) yes, (stay-none (λ _. u32) yes, tt)))))))))
@@ -89,16 +80,6 @@ Core 𝓤 H A mem run = tripleOf 𝓤 H A core.signature (core.spec 𝓤 H A mem
 
 abbrev Left : {M : Type 1} (𝓤 : URA M) (H : Heap 𝓤) (A : Atoms 𝓤) (mem : Memory → SProp 𝓤) (run : Routine → Fun 𝓤) → Contract 𝓤
 Left 𝓤 H A mem run = tripleOf 𝓤 H A left.signature (left.spec 𝓤 H A mem run)
-
--- what is known of the parts of a result
-whole-of : (l : IndexLeft) (vs : List Val) → Is B.the-row l vs → Is B.the-row l (StructLaws.vals B.the-type B′.the-laws l)
-whole-of l vs il = subst (Is B.the-row l) (StructLaws.tells B.the-type B′.the-laws l vs il) il
-
-header-of : (l : IndexLeft) (vs : List Val) → Is B.the-row l vs → Is R (l .header) (mach (l .header) ∷ [])
-header-of l vs il = StructLaws.owed B.the-type B′.the-laws l (StructLaws.vals B.the-type B′.the-laws l) (whole-of l vs il) .0
-
-reply-of : (l : IndexLeft) (vs : List Val) → Is B.the-row l vs → Is Rep.the-row (l .reply) (reply-val (l .reply) ∷ [])
-reply-of l vs il = StructLaws.owed B.the-type B′.the-laws l (StructLaws.vals B.the-type B′.the-laws l) (whole-of l vs il) .1 .0
 
 module _ {M : Type 1} (𝓤 : URA M) (H : Heap 𝓤) (A : Atoms 𝓤) (W : Given 𝓤 H A) (at-mem : Memory → SProp 𝓤) (run : Routine → Fun 𝓤) where
   module _ (κ0 κ1 κ2 κ3 : Lft) (q0 q1 q2 q3 : Share) (b o : ℕ) (γ : GName) (h : Header) (capacity : ℕ) (blocks : ℕ) (pages : RefT (List ℕ)) (frames : RefT (List ℕ)) (hash : RefT (List ℕ)) (page-id : ℕ) (frame-id : ℕ) (grow : ℕ)
