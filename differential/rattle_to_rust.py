@@ -70,8 +70,12 @@ def rust(text):
     return exported(text)
 
 
-def crates_of(root, name):
-    """The crate and all of the repository that it needs, the needed ones first, each with those that it names."""
+# The crates with the C functions. Together they are the static library.
+BOUNDARIES = ["header_boundary", "index_boundary", "reader_boundary"]
+
+
+def crates_of(root, names):
+    """The crates and all of the repository that they need, the needed ones first, each with those that it names."""
     needs = {}
     for line in (root / "crates.txt").read_text().splitlines():
         if (line := line.split("#")[0].strip()) and ":" in line:
@@ -86,7 +90,8 @@ def crates_of(root, name):
                 visit(needed)
             order.append(crate)
 
-    visit(name)
+    for name in names:
+        visit(name)
     return [(crate, needs[crate]) for crate in order]
 
 

@@ -1,0 +1,6 @@
+-- Laws of the replies.
+mod LockParts
+mod Bumps
+mod Acquires
+mod Releases
+mod Replies

@@ -1,0 +1,47 @@
+use mathlib.Core.Path.{sym, _∙_}
+use Rattle.header.specs.declared.locks.Lock.the-variants.{Checkpoint}
+use Rattle.header.specs.Locks.{release, release-answer, release-header, release-local}
+use Rattle.replies.specs.Mode.{mode-given}
+use Rattle.header_boundary.proofs.Replies.{unknown-call, given-call}
+use native.Mathlib.Omega.{arith}
+use borrow.Author.Needs.{needs}
+use Rattle.header_boundary.proofs.lock_reply.checkpoint_released.Statement.{statement}
+use Rattle.header_boundary.proofs.lock_reply.checkpoint_released.Tie as tie
+use Rattle.header_boundary.proofs.lock_reply.checkpoint_released.Reads as reads
+use Rattle.header_boundary.proofs.lock_reply.checkpoint_released.Lts as lts
+use Rattle.header.proofs.locks.release_checkpoint.Reads as release-checkpoint-reads
+use Rattle.replies.proofs.mode_of.Reads as mode-of-reads
+
+mode-of-requires : tie.Need-mode-of-requires
+mode-of-requires c κs = search needs
+
+enum-known-given : tie.Need-enum-known-given
+enum-known-given c = search needs
+
+enum-told : tie.Need-enum-told
+enum-told c = search needs
+
+returns : tie.Need-returns
+returns c =
+    let a = c .before .before .before .args in
+    unknown-call Checkpoint (λ given. release Checkpoint given (a .owner)) (a .header) (a .local-owner) (mode-given (a .mode)) (sym (c .before .before .mode-of .ensures) ∙ c .enum-told .given .1)
+
+release-checkpoint-requires : tie.Need-release-checkpoint-requires
+release-checkpoint-requires c κs = search needs
+
+returns-2 : tie.Need-returns-2
+returns-2 c =
+    let a = c .before .before .before .before .before .args in
+    let r = c .release-checkpoint .result in
+    given-call Checkpoint (λ given. release Checkpoint given (a .owner)) (a .header) (a .local-owner) (mode-given (a .mode)) _ (release-answer r) (release-header (a .header) r) (release-local (a .local-owner) r) (sym (c .before .before .before .before .mode-of .ensures) ∙ c .before .before .given .given .1) (c .release-checkpoint .ensures)
+
+pub checkpoint-released-spec : {M : Type 1} → statement M
+checkpoint-released-spec =
+    tie.close
+    (tie.spec
+    mode-of-requires
+    enum-known-given
+    enum-told
+    returns
+    release-checkpoint-requires
+    returns-2)

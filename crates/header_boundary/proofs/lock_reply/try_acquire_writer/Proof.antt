@@ -1,0 +1,30 @@
+use Rattle.header.specs.declared.locks.Lock.the-variants.{Writer}
+use Rattle.header.specs.Locks.{try-acquire}
+use Rattle.header_boundary.proofs.Replies.{acquire-stores, acquire-told}
+use native.Mathlib.Omega.{arith}
+use borrow.Author.Needs.{needs}
+use Rattle.header_boundary.proofs.lock_reply.try_acquire_writer.Statement.{statement}
+use Rattle.header_boundary.proofs.lock_reply.try_acquire_writer.Tie as tie
+use Rattle.header_boundary.proofs.lock_reply.try_acquire_writer.Reads as reads
+use Rattle.header_boundary.proofs.lock_reply.try_acquire_writer.Lts as lts
+use Rattle.header.proofs.locks.try_acquire_writer.Reads as try-acquire-writer-reads
+use Rattle.header_boundary.proofs.lock_reply.acquired.Reads as acquired-reads
+use Rattle.header_boundary.proofs.lock_reply.left.Reads as left-reads
+
+try-acquire-writer-requires : tie.Need-try-acquire-writer-requires
+try-acquire-writer-requires c κs = search needs
+
+acquired-requires : tie.Need-acquired-requires
+acquired-requires c κs = search needs
+
+left-requires : tie.Need-left-requires
+left-requires c κs = search needs
+
+returns : tie.Need-returns
+returns c =
+    let a = c .before .before .before .args in
+    rw (c .left .ensures, c .before .acquired .ensures) (acquire-told Writer (try-acquire Writer (a .owner) (a .card)) (acquire-stores Writer (a .owner) (a .card)) _ _ (c .before .before .try-acquire-writer .result) (c .before .before .try-acquire-writer .ensures))
+
+pub try-acquire-writer-spec : {M : Type 1} → statement M
+try-acquire-writer-spec =
+    tie.close (tie.spec try-acquire-writer-requires acquired-requires left-requires returns)

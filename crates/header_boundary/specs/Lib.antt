@@ -1,0 +1,2 @@
+-- The lock calls' replies.
+pub mod LockReply

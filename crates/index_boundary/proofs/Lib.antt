@@ -1,0 +1,4 @@
+-- Laws of the replies.
+mod IndexParts
+mod IndexStores
+mod IndexReplies

@@ -1,0 +1,21 @@
+use native.Mathlib.Omega.{arith}
+use borrow.Author.Needs.{needs}
+use Rattle.index_boundary.proofs.index_calls.listed.Statement.{statement}
+use Rattle.index_boundary.proofs.index_calls.listed.Tie as tie
+use Rattle.index_boundary.proofs.index_calls.listed.Reads as reads
+use Rattle.index_boundary.proofs.index_calls.listed.Lts as lts
+
+enum-known-answer : tie.Need-enum-known-answer
+enum-known-answer c = search needs
+
+enum-known-answer-2 : tie.Need-enum-known-answer-2
+enum-known-answer-2 c = search needs
+
+returns : tie.Need-returns
+returns c = rw (c .before .answer .given .1)
+
+returns-2 : tie.Need-returns-2
+returns-2 c = rw (c .before .answer2 .given .1)
+
+pub listed-spec : {M : Type 1} → statement M
+listed-spec = tie.close (tie.spec enum-known-answer enum-known-answer-2 returns returns-2)

@@ -1,0 +1,19 @@
+use Rattle.index_boundary.specs.IndexReply.{watermark-given}
+use borrow.Author.Tests.{eq-eqb, ne-eqb}
+use native.Mathlib.Omega.{arith}
+use borrow.Author.Needs.{needs}
+use Rattle.index_boundary.proofs.index_calls.watermark_of.Statement.{statement}
+use Rattle.index_boundary.proofs.index_calls.watermark_of.Tie as tie
+use Rattle.index_boundary.proofs.index_calls.watermark_of.Reads as reads
+use Rattle.index_boundary.proofs.index_calls.watermark_of.Lts as lts
+
+returns : tie.Need-returns
+unfolding watermark-given
+returns c = rw (eq-eqb _ _ (c .if1 .taken))
+
+returns-2 : tie.Need-returns-2
+unfolding watermark-given
+returns-2 c = rw (ne-eqb _ _ (c .if1 .left))
+
+pub watermark-of-spec : {M : Type 1} → statement M
+watermark-of-spec = tie.close (tie.spec returns returns-2)

@@ -1,0 +1,2 @@
+-- The index calls' replies.
+pub mod IndexReply

@@ -1,0 +1,3 @@
+-- Laws of the replies.
+mod ReaderReplies
+mod ReaderWalk

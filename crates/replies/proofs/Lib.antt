@@ -1,0 +1,2 @@
+-- Laws of what a call leaves of the header.
+pub mod Touched

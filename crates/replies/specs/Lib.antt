@@ -1,0 +1,3 @@
+-- Answers and lock modes as numbers.
+pub mod Reply
+pub mod Mode
