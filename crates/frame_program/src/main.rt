@@ -55,12 +55,14 @@ fn answer_line(
 ) -> State
     requires { ⌜ 26 ≤ length (now out) ⌝ }
 {
-    if !state.is_line_whole {
+    let input = state.input;
+    if !input.is_line_whole {
         return state;
     }
-    let request = request_of(line, state.line_len);
+    let request = request_of(line, input.line_len);
+    let next = text_lines::input::without_line(input);
     perform(
-        state::without_line(state),
+        state::with_input(state, next),
         out,
         pages,
         frames,
@@ -83,7 +85,7 @@ fn serve(
 {
     let mut state = state::start();
     let mut turns = u64::MAX;
-    while turns > 0 && !state.is_ended {
+    while turns > 0 && !state.input.is_ended {
         turns -= 1;
         state = input::step(state, input, line, out);
         state = answer_line(state, line, out, pages, frames, hash);

@@ -1,8 +1,8 @@
 // A recorded block: its lines, and how its hash cells differ from those that its pages give.
-use call_script::line::Number;
-use call_script::line::byte_at;
-use call_script::line::field_count;
-use call_script::line::number_field;
+use text_lines::line::Number;
+use text_lines::line::byte_at;
+use text_lines::line::field_count;
+use text_lines::line::number_field;
 ghost use mathlib.Core.Path.{_≡_};
 ghost use lib.ListN.{length};
 

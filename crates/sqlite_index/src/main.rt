@@ -3,9 +3,9 @@
 // pages, and all 8,192 cells are compared. A line that starts with # is a comment.
 mod block;
 
-use call_script::line::line_end;
 use libc::STDIN_FILENO;
 use libc::STDOUT_FILENO;
+use text_lines::line::line_end;
 
 // Takes in the lines of the text, and answers how many pages there are.
 fn read_block(text: &[u8], len: usize, pages: &mut [u64], cells: &mut [u16]) -> usize {

@@ -6,7 +6,7 @@
 //! - `refusals`: document 01's table of refusals.
 //! - `demand3`: what a hold is owed, checked at run time.
 //! - `session`: one script on one side or on both, with every cell compared after each call.
-//! - `random`: scripts of its own making, and the shortest one that shows a difference.
+//! - `random`: scripts of its own making, and the shortest one that shows a difference; cases of one call each.
 //! - `exhaustive`: all short sequences of calls on the index.
 //! - `states`: every state of two reader slots, and each call on readers in it.
 

@@ -1,5 +1,6 @@
 //! Scripts of the tool's own making, aimed at the corners of document 01.
 
+pub mod cases;
 mod dice;
 mod header;
 mod holds;

@@ -2,7 +2,7 @@
 
 use calls::demand3::Checked;
 use calls::exhaustive;
-
+use calls::random::cases::{cases, other_forms};
 use calls::random::{self, Family, Found, Tally, Wanted};
 use calls::script::Line;
 use calls::session::{Reply, Session, Sides};
@@ -20,7 +20,9 @@ const USAGE: &str = "usage: compare FILE                      each call on both 
        compare --random-rust SEED SEQUENCES   the same on the Rust alone, against the table of refusals
        compare --exhaustive LENGTH       every state of two slots with each call on readers, and all sequences of up
                                          to LENGTH calls on the index, on both sides
-       compare --scripts SEED SEQUENCES  prints the scripts of --random";
+       compare --scripts SEED SEQUENCES  prints the scripts of --random
+       compare --cases SEED COUNT        prints cases for crates/recorded_calls; needs no side
+       compare --cases-rust SEED COUNT   the Rust's answers to them";
 
 #[cfg(feature = "port")]
 const PORT: Option<&dyn Port> = Some(&port::Library);
@@ -45,12 +47,14 @@ fn main() -> ExitCode {
         ["--demand3", _, _] => (holds, Sides { rust: None, ..both }),
         ["--exhaustive", _] => (all_sequences, both),
         ["--scripts", _, _, ..] => (print_scripts, both),
+        ["--cases", _, _] => (print_cases, both),
+        ["--cases-rust", _, _] => (print_case_answers, Sides { port: None, ..both }),
         ["--random-rust", _, _, ..] => (random_scripts, Sides { port: None, ..both }),
         [file] if !file.starts_with("--") => (script, both),
         _ => return fault(USAGE),
     };
-    if RUST.is_none() && !["--port", "--demand3"].contains(&words[0]) {
-        return fault("the Rust source is missing: only --port and --demand3 work");
+    if RUST.is_none() && !["--port", "--demand3", "--cases"].contains(&words[0]) {
+        return fault("the Rust source is missing: only --port, --demand3 and --cases work");
     }
     run(sides, &words)
 }
@@ -142,6 +146,42 @@ fn print_scripts(sides: Sides, words: &[&str]) -> ExitCode {
         Ok(_) => ExitCode::SUCCESS,
         Err(found) => told(&found),
     }
+}
+
+/// SEED COUNT.
+fn case_count(words: &[&str]) -> Option<(u64, u64)> {
+    Some((words[1].parse().ok()?, words[2].parse().ok()?))
+}
+
+fn row(numbers: &[u64]) -> String {
+    numbers.iter().map(u64::to_string).collect::<Vec<_>>().join(" ")
+}
+
+fn print_cases(_: Sides, words: &[&str]) -> ExitCode {
+    let Some((seed, count)) = case_count(words) else { return fault(USAGE) };
+    println!(
+        "# Calls with all that they are given, in the rows of crates/recorded_calls/src/calls.rt, and then lines of"
+    );
+    println!("# another form. Made by: ./compare --cases {seed} {count}");
+    println!("# The answers are the Rust's: ./compare --cases-rust {seed} {count}");
+    cases(seed, count).for_each(|case| println!("{}", row(&case.row())));
+    other_forms().iter().for_each(|line| println!("{line}"));
+    ExitCode::SUCCESS
+}
+
+fn print_case_answers(sides: Sides, words: &[&str]) -> ExitCode {
+    let Some((seed, count)) = case_count(words) else { return fault(USAGE) };
+    for case in cases(seed, count) {
+        match case.answer(sides) {
+            Ok(answer) => println!("{}", row(&answer)),
+            Err(difference) => {
+                print!("{difference}");
+                return ExitCode::from(1);
+            }
+        }
+    }
+    other_forms().iter().for_each(|_| println!("?"));
+    ExitCode::SUCCESS
 }
 
 fn told(found: &Found) -> ExitCode {

@@ -1,0 +1,166 @@
+// The calls on the header: publishes, bumps and the two locks.
+use crate::row;
+use crate::row::Row;
+use header::locks::Acquire;
+use header::locks::Release;
+use header::publish::Bumped;
+use wal_types::Header;
+use wal_types::SharedOwnerRecord;
+
+const MAX_U32: u64 = 4294967295;
+
+// Whether the cells of 32 bits fit.
+fn fits_header(row: [u64; 18]) -> bool {
+    (row[1] | row[2] | row[3] | row[8] | row[9] | row[10] | row[11]) <= MAX_U32
+}
+
+fn header_of(row: [u64; 18]) -> Header {
+    Header {
+        frame_index_blocks: row::low_half(row[1]),
+        frame_index_len: row::low_half(row[2]),
+        frame_index_overflowed: row::low_half(row[3]),
+        max_frame: row[4],
+        nbackfills: row[5],
+        transaction_count: row[6],
+        visibility_generation: row[7],
+        checkpoint_seq: row::low_half(row[8]),
+        checkpoint_epoch: row::low_half(row[9]),
+        checksum_1: row::low_half(row[10]),
+        checksum_2: row::low_half(row[11]),
+        writer_owner: row[12],
+        checkpoint_owner: row[13],
+    }
+}
+
+// The numbers behind the header's cells.
+struct Given {
+    first: u64,
+    second: u64,
+    third: u64,
+    fourth: u64,
+}
+
+fn given_of(row: [u64; 18]) -> Given {
+    Given {
+        first: row[14],
+        second: row[15],
+        third: row[16],
+        fourth: row[17],
+    }
+}
+
+// The answer's row: what is told, and the cells that are left. A lock's has the own cell.
+fn answer(refusal: u32, told: u32, header: Header, local_owner: u64, count: usize) -> Row {
+    let numbers = [
+        row::wide(refusal),
+        row::wide(told),
+        row::wide(header.frame_index_blocks),
+        row::wide(header.frame_index_len),
+        row::wide(header.frame_index_overflowed),
+        header.max_frame,
+        header.nbackfills,
+        header.transaction_count,
+        header.visibility_generation,
+        row::wide(header.checkpoint_seq),
+        row::wide(header.checkpoint_epoch),
+        row::wide(header.checksum_1),
+        row::wide(header.checksum_2),
+        header.writer_owner,
+        header.checkpoint_owner,
+        local_owner,
+        0,
+        0,
+    ];
+    Row { numbers, count }
+}
+
+// The row of a publish or a bump.
+fn published(header: Header, told: u32) -> Row {
+    answer(0, told, header, 0, 15)
+}
+
+fn locked(header: Header, local_owner: u64, acquire: Acquire) -> Row {
+    match acquire {
+        Acquire::Taken(next, held) => answer(0, 1, next, held.0, 16),
+        Acquire::Busy => answer(0, 0, header, local_owner, 16),
+        Acquire::Refused(number) => answer(number, 0, header, local_owner, 16),
+    }
+}
+
+fn unlocked(header: Header, local_owner: u64, release: Release) -> Row {
+    match release {
+        Release::Released(next, held) => answer(0, 0, next, held.0, 16),
+        Release::Refused(number) => answer(number, 0, header, local_owner, 16),
+    }
+}
+
+fn publish_commit(header: Header, given: Given) -> Row {
+    if (given.second | given.third) > MAX_U32 {
+        return row::other_form();
+    }
+    let next = header::publish::publish_commit(
+        header,
+        given.first,
+        row::low_half(given.second),
+        row::low_half(given.third),
+        given.fourth,
+    );
+    published(next, 0)
+}
+
+fn publish_backfill(header: Header, nbackfills: u64) -> Row {
+    published(header::publish::publish_backfill(header, nbackfills), 0)
+}
+
+fn bumped(bumped: Bumped) -> Row {
+    let next = bumped.header;
+    published(next, bumped.value)
+}
+
+fn acquire(call: u64, header: Header, given: Given) -> Row {
+    if given.third > 255 {
+        return row::other_form();
+    }
+    let local = SharedOwnerRecord(given.first);
+    let owner = SharedOwnerRecord(given.second);
+    let card = row::low_byte(given.third);
+    if call == 5 {
+        let acquire = header::locks::try_acquire_writer(header, local, owner, card);
+        return locked(header, given.first, acquire);
+    }
+    let acquire = header::locks::try_acquire_checkpoint(header, local, owner, card);
+    locked(header, given.first, acquire)
+}
+
+fn release(call: u64, header: Header, given: Given) -> Row {
+    if given.second > 1 {
+        return row::other_form();
+    }
+    let local = SharedOwnerRecord(given.first);
+    let mode = row::mode_of(given.second);
+    let owner = SharedOwnerRecord(given.third);
+    if call == 7 {
+        let release = header::locks::release_writer(mode, header, local, owner);
+        return unlocked(header, given.first, release);
+    }
+    let release = header::locks::release_checkpoint(mode, header, local, owner);
+    unlocked(header, given.first, release)
+}
+
+fn make(call: u64, header: Header, given: Given) -> Row {
+    match call {
+        1 => publish_commit(header, given),
+        2 => publish_backfill(header, given.first),
+        3 => bumped(header::publish::bump_checkpoint_seq(header)),
+        4 => bumped(header::publish::bump_checkpoint_epoch(header)),
+        5 | 6 => acquire(call, header, given),
+        _ => release(call, header, given),
+    }
+}
+
+pub fn perform(call: u64, row: [u64; 18]) -> Row {
+    if !fits_header(row) {
+        return row::other_form();
+    }
+    make(call, header_of(row), given_of(row))
+}

@@ -1,0 +1,73 @@
+// Makes calls whose answers by the Rust are recorded. Standard input has a call to a line: a row of decimal numbers with
+// single spaces between, the call's number and then all that the call is given, cells and arguments (`calls`). The
+// program answers a row: the refusal or 0, the answer's numbers, and every cell that the call could have changed. A line
+// that starts with # is a comment and has no answer. Any other line answers `?`, and so does one without its newline.
+//
+// Calls that are lent the registry of shared marks are not here: their recorded answers are held against the static
+// library (./compare --recorded).
+mod calls;
+mod header_calls;
+mod reader_calls;
+mod row;
+
+use row::Row;
+use text_lines::input::Input;
+use text_lines::line::byte_at;
+
+// The numbers of the line that stands in `line`. One without its newline is too long, or the input's last.
+fn row_of(line: &[u8], len: usize) -> Row {
+    let first = 0;
+    if len == 0 {
+        return row::other_form();
+    }
+    let end = len - 1;
+    if end >= line.len() {
+        return row::other_form();
+    }
+    if line[end] != b'\n' {
+        return row::other_form();
+    }
+    row::read(&line[first..end])
+}
+
+fn answer_line(line: &[u8], len: usize) {
+    if byte_at(line, 0) == b'#' {
+        return;
+    }
+    row::write(calls::perform(row_of(line, len)));
+}
+
+// One step towards a whole line: takes what was read, or reads more.
+fn step(input: Input, bytes: &mut [u8], line: &mut [u8]) -> Input {
+    if text_lines::input::is_taken(input) {
+        return text_lines::input::refill(input, bytes);
+    }
+    text_lines::input::take_part(input, bytes, line)
+}
+
+// Answers the line that stands in `line`, if it is whole.
+fn answer_if_whole(input: Input, line: &[u8]) -> Input {
+    if !input.is_line_whole {
+        return input;
+    }
+    answer_line(line, input.line_len);
+    text_lines::input::without_line(input)
+}
+
+// A proved loop has to end, and nothing says that the input does: it counts its turns down, from a number that no run
+// uses up.
+fn serve(bytes: &mut [u8], line: &mut [u8]) {
+    let mut input = text_lines::input::start();
+    let mut turns = u64::MAX;
+    while turns > 0 && !input.is_ended {
+        turns -= 1;
+        input = step(input, bytes, line);
+        input = answer_if_whole(input, line);
+    }
+}
+
+fn main() {
+    let mut bytes = [0u8; 65536];
+    let mut line = [0u8; 1024];
+    serve(&mut bytes, &mut line);
+}
