@@ -1,9 +1,11 @@
 //! The port as a side of the comparison, over the C functions of its static library.
 
+#[path = "../../../rust/src/functions.rs"]
 pub mod functions;
 pub mod list;
 pub mod readers;
 
+use calls::memory::{Header, Record as SharedReadMark};
 use calls::script::{Answer, Card};
 use calls::sides::{Given, Parts, Port};
 use functions::*;

@@ -1,6 +1,7 @@
-//! The C functions of the port's static library.
+//! The C functions of the static library (c/wal_coordination.h). The file has no type of its own for the header and for
+//! a record of the registry: the module above gives both, laid out as C has them.
 
-use calls::memory::{Header, Record};
+use super::{Header, SharedReadMark};
 
 #[repr(C)]
 pub struct LockReply {
@@ -58,8 +59,8 @@ extern "C" {
         frames_len: usize,
         hash: *mut u16,
         hash_len: usize,
-        page: u64,
-        frame: u64,
+        page_id: u64,
+        frame_id: u64,
         grow: u32,
     ) -> IndexReply;
     pub fn wal_rollback_frames(
@@ -72,7 +73,7 @@ extern "C" {
         frames_len: usize,
         hash: *mut u16,
         hash_len: usize,
-        bound: u64,
+        max_frame: u64,
     ) -> IndexReply;
     pub fn wal_find_frame(
         capacity: u32,
@@ -84,9 +85,9 @@ extern "C" {
         frames_len: usize,
         hash: *const u16,
         hash_len: usize,
-        page: u64,
-        min: u64,
-        max: u64,
+        page_id: u64,
+        min_frame: u64,
+        max_frame: u64,
         has_watermark: u32,
         watermark: u64,
     ) -> FindReply;
@@ -100,8 +101,8 @@ extern "C" {
         frames_len: usize,
         hash: *const u16,
         hash_len: usize,
-        min: u64,
-        max: u64,
+        min_frame: u64,
+        max_frame: u64,
         out_pages: *mut u64,
         out_pages_len: usize,
         out_frames: *mut u64,
@@ -163,7 +164,7 @@ extern "C" {
         reader_frames_len: usize,
         reader_owners: *const u64,
         reader_owners_len: usize,
-        registry: *const Record,
+        registry: *const SharedReadMark,
         registry_len: usize,
         slot: usize,
         owner: u64,
@@ -180,7 +181,7 @@ extern "C" {
         reader_owners_len: usize,
         local_readers: *mut u64,
         local_readers_len: usize,
-        registry: *const Record,
+        registry: *const SharedReadMark,
         registry_len: usize,
         slot: usize,
         owner: u64,
@@ -196,7 +197,7 @@ extern "C" {
         reader_owners_len: usize,
         local_readers: *mut u64,
         local_readers_len: usize,
-        registry: *mut Record,
+        registry: *mut SharedReadMark,
         registry_len: usize,
         card: *const u8,
         card_len: usize,
@@ -214,7 +215,7 @@ extern "C" {
         reader_owners_len: usize,
         local_readers: *mut u64,
         local_readers_len: usize,
-        registry: *mut Record,
+        registry: *mut SharedReadMark,
         registry_len: usize,
         card: *const u8,
         card_len: usize,
@@ -231,7 +232,7 @@ extern "C" {
         reader_owners_len: usize,
         local_readers: *mut u64,
         local_readers_len: usize,
-        registry: *mut Record,
+        registry: *mut SharedReadMark,
         registry_len: usize,
         mark: u64,
         slot: usize,
