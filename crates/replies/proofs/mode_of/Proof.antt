@@ -1,11 +1,7 @@
 use borrow.Author.Tests.{eq-eqb, ne-eqb}
 use Rattle.replies.specs.Mode.{mode-given}
-use native.Mathlib.Omega.{arith}
-use borrow.Author.Needs.{needs}
 use Rattle.replies.proofs.mode_of.Statement.{statement}
 use Rattle.replies.proofs.mode_of.Tie as tie
-use Rattle.replies.proofs.mode_of.Reads as reads
-use Rattle.replies.proofs.mode_of.Lts as lts
 
 returns : tie.Need-returns
 unfolding mode-given
