@@ -1,3 +1,3 @@
--- Laws of the replies.
+-- Laws of the C functions of the reader calls.
 mod ReaderReplies
 mod ReaderWalk

@@ -15,9 +15,10 @@ use Rattle.shared_marks.specs.Shared.{register-reader-for-snapshot, unregister-
 use Rattle.shared_marks.specs.Direct.{DirectMove}
 use Rattle.replies.specs.declared.Mode.{Mode}
 use Rattle.replies.specs.declared.Mode.the-variants.{Given, Unknown}
-use Rattle.reader_boundary.specs.declared.reader_calls.Settings.{Settings}
+use Rattle.reader_replies.specs.declared.Settings.{Settings}
 use Rattle.replies.specs.Mode.{mode-given, with-mode}
-use Rattle.reader_boundary.specs.ReaderReply.{settings-given, Told, SlotsReplied, RegistryReplied, MoveReplied, LimitReplied}
+use Rattle.reader_replies.specs.ReaderReply.{settings-given}
+use Rattle.reader_boundary.specs.ReaderReplied.{Told, SlotsReplied, RegistryReplied, MoveReplied, LimitReplied}
 
 -- Of 0 slots the call is refused with 1.
 abbrev pub NeedsSlots : (ℕ → SharedWalOwnershipMode → Call) → Type 0

@@ -36,18 +36,18 @@ use Rattle.shared_marks.specs.declared.shared.Share.{Share}
 use Rattle.shared_marks.specs.Shared.{share-answer}
 use Rattle.shared_marks.proofs.shared.Share as S
 use Rattle.shared_marks.proofs.shared.Share.Laws as S′
-use Rattle.reader_boundary.specs.declared.reader_calls.ReaderReply.{ReaderReply}
-use Rattle.reader_boundary.specs.declared.reader_calls.Settings.{Settings}
+use Rattle.reader_replies.specs.declared.ReaderReply.{ReaderReply}
+use Rattle.reader_replies.specs.declared.Settings.{Settings}
 use Rattle.replies.specs.Reply.{refusal-number}
 use Rattle.replies.specs.Mode.{mode-given}
-use Rattle.reader_boundary.specs.ReaderReply.{settings-given, reader-reply}
-use Rattle.reader_boundary.proofs.reader_calls.Settings as P
-use Rattle.reader_boundary.proofs.reader_calls.Settings.Laws as P′
-use Rattle.reader_boundary.proofs.reader_calls.ReaderReply as Y
-use Rattle.reader_boundary.proofs.reader_calls.ReaderReply.Laws as Y′
-use Rattle.reader_boundary.proofs.reader_calls.settings_of as read
-use Rattle.reader_boundary.proofs.reader_calls.share_told as share
-use Rattle.reader_boundary.proofs.reader_calls.release_told as release
+use Rattle.reader_replies.specs.ReaderReply.{settings-given, reader-reply}
+use Rattle.reader_replies.proofs.Settings as P
+use Rattle.reader_replies.proofs.Settings.Laws as P′
+use Rattle.reader_replies.proofs.ReaderReply as Y
+use Rattle.reader_replies.proofs.ReaderReply.Laws as Y′
+use Rattle.reader_replies.proofs.settings_of as read
+use Rattle.reader_replies.proofs.share_told as share
+use Rattle.reader_replies.proofs.release_told as release
 
 abbrev pub R : RattleType
 R = T.the-row

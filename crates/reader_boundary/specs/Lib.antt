@@ -1,2 +1,2 @@
--- The reader calls' replies.
-pub mod ReaderReply
+-- What the C functions of the reader calls promise.
+pub mod ReaderReplied

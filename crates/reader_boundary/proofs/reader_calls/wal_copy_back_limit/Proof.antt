@@ -1,14 +1,9 @@
 use Rattle.reader_floor.specs.Limit.{copy-back-limit, limit-answer}
-use Rattle.reader_boundary.specs.ReaderReply.{limit-reply}
+use Rattle.reader_replies.specs.ReaderReply.{limit-reply}
 use Rattle.reader_boundary.proofs.ReaderReplies.{limit-needs-slots, limit-told}
 use borrow.Author.Needs.{needs}
 use Rattle.reader_boundary.proofs.reader_calls.wal_copy_back_limit.Statement.{statement}
 use Rattle.reader_boundary.proofs.reader_calls.wal_copy_back_limit.Tie as tie
-use Rattle.reader_boundary.proofs.reader_calls.wal_copy_back_limit.Reads as reads
-use Rattle.reader_boundary.proofs.reader_calls.wal_copy_back_limit.Lts as lts
-use Rattle.reader_floor.proofs.limit.copy_back_limit.Reads as copy-back-limit-reads
-use Rattle.reader_boundary.proofs.reader_calls.limit_told.Reads as limit-told-reads
-use Rattle.reader_boundary.proofs.reader_calls.settings_of.Reads as settings-of-reads
 
 settings-of-requires : tie.Need-settings-of-requires
 settings-of-requires c κs = search needs

@@ -1,4 +1,4 @@
-use Rattle.reader_boundary.specs.ReaderReply.{db-file-reply}
+use Rattle.reader_replies.specs.ReaderReply.{db-file-reply}
 use Rattle.reader_boundary.proofs.ReaderReplies.{db-file-needs-slots, slots-told}
 use Rattle.reader_floor.specs.Floor.{has-active-db-file-reader, db-file-answer}
 use borrow.Author.Needs.{needs}
@@ -6,11 +6,6 @@ use Rattle.reader_boundary.proofs.reader_calls.wal_has_active_db_file_r
   statement,
 }
 use Rattle.reader_boundary.proofs.reader_calls.wal_has_active_db_file_reader.Tie as tie
-use Rattle.reader_boundary.proofs.reader_calls.wal_has_active_db_file_reader.Reads as reads
-use Rattle.reader_boundary.proofs.reader_calls.wal_has_active_db_file_reader.Lts as lts
-use Rattle.reader_floor.proofs.floor.has_active_db_file_reader.Reads as has-active-db-file-reader-reads
-use Rattle.reader_boundary.proofs.reader_calls.db_file_told.Reads as db-file-told-reads
-use Rattle.reader_boundary.proofs.reader_calls.settings_of.Reads as settings-of-reads
 
 settings-of-requires : tie.Need-settings-of-requires
 settings-of-requires c κs = search needs

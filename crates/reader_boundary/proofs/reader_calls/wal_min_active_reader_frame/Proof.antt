@@ -1,4 +1,4 @@
-use Rattle.reader_boundary.specs.ReaderReply.{floor-reply}
+use Rattle.reader_replies.specs.ReaderReply.{floor-reply}
 use Rattle.reader_boundary.proofs.ReaderReplies.{floor-needs-slots, slots-told}
 use Rattle.reader_floor.specs.Floor.{min-active-reader-frame, min-frame-answer}
 use borrow.Author.Needs.{needs}
@@ -6,11 +6,6 @@ use Rattle.reader_boundary.proofs.reader_calls.wal_min_active_reader_fr
   statement,
 }
 use Rattle.reader_boundary.proofs.reader_calls.wal_min_active_reader_frame.Tie as tie
-use Rattle.reader_boundary.proofs.reader_calls.wal_min_active_reader_frame.Reads as reads
-use Rattle.reader_boundary.proofs.reader_calls.wal_min_active_reader_frame.Lts as lts
-use Rattle.reader_floor.proofs.floor.min_active_reader_frame.Reads as min-active-reader-frame-reads
-use Rattle.reader_boundary.proofs.reader_calls.floor_told.Reads as floor-told-reads
-use Rattle.reader_boundary.proofs.reader_calls.settings_of.Reads as settings-of-reads
 
 settings-of-requires : tie.Need-settings-of-requires
 settings-of-requires c κs = search needs

@@ -1,14 +1,9 @@
-use Rattle.reader_boundary.specs.ReaderReply.{reader-reply}
+use Rattle.reader_replies.specs.ReaderReply.{reader-reply}
 use Rattle.reader_boundary.proofs.ReaderReplies.{register-needs-slots, slots-told}
 use Rattle.readers.specs.Register.{register-reader, register-answer}
 use borrow.Author.Needs.{needs}
 use Rattle.reader_boundary.proofs.reader_calls.wal_register_reader.Statement.{statement}
 use Rattle.reader_boundary.proofs.reader_calls.wal_register_reader.Tie as tie
-use Rattle.reader_boundary.proofs.reader_calls.wal_register_reader.Reads as reads
-use Rattle.reader_boundary.proofs.reader_calls.wal_register_reader.Lts as lts
-use Rattle.readers.proofs.register.register_reader.Reads as register-reader-reads
-use Rattle.reader_boundary.proofs.reader_calls.register_told.Reads as register-told-reads
-use Rattle.reader_boundary.proofs.reader_calls.settings_of.Reads as settings-of-reads
 
 settings-of-requires : tie.Need-settings-of-requires
 settings-of-requires c κs = search needs

@@ -1,0 +1,2 @@
+-- The reader calls' replies.
+pub mod ReaderReply
