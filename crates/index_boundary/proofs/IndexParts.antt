@@ -8,12 +8,12 @@ use denote.Struct.Laws as StructLaws
 use Rattle.wal_types.specs.declared.Header.{Header}
 use Rattle.wal_types.proofs.Header as T
 use Rattle.wal_types.proofs.Header.Laws as T′
-use Rattle.index_boundary.specs.declared.index_reply.IndexReply.{IndexReply}
-use Rattle.index_boundary.specs.declared.index_reply.IndexLeft.{IndexLeft}
-use Rattle.index_boundary.proofs.index_reply.IndexReply as Rep
-use Rattle.index_boundary.proofs.index_reply.IndexReply.Laws as Rep′
-use Rattle.index_boundary.proofs.index_reply.IndexLeft as B
-use Rattle.index_boundary.proofs.index_reply.IndexLeft.Laws as B′
+use Rattle.index_replies.specs.declared.index_reply.IndexReply.{IndexReply}
+use Rattle.index_replies.specs.declared.index_reply.IndexLeft.{IndexLeft}
+use Rattle.index_replies.proofs.index_reply.IndexReply as Rep
+use Rattle.index_replies.proofs.index_reply.IndexReply.Laws as Rep′
+use Rattle.index_replies.proofs.index_reply.IndexLeft as B
+use Rattle.index_replies.proofs.index_reply.IndexLeft.Laws as B′
 
 -- the header's row; the machine values of a header and of a reply
 abbrev pub R : RattleType

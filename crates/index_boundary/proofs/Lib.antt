@@ -1,4 +1,3 @@
--- Laws of the replies.
+-- Laws of the C functions of the index calls.
 mod IndexParts
-mod IndexStores
-mod IndexReplies
+mod LookupReplies

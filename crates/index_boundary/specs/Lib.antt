@@ -1,2 +1,2 @@
--- The index calls' replies.
-pub mod IndexReply
+-- What the C functions of a lookup and of a list promise.
+pub mod LookupReplied

@@ -1,12 +1,11 @@
 // The calls on the frame index. Those that change it have the header lent; a lookup and a list are given it by value.
-use crate::index_reply;
-use crate::index_reply::IndexReply;
 use frame_index::find;
-use frame_index::find::Found;
-use frame_index::find::Watermark;
-use frame_list::List;
+use index_replies::index_reply;
+use index_replies::index_reply::IndexReply;
+use index_replies::lookup_reply;
+use index_replies::lookup_reply::FindReply;
+use index_replies::lookup_reply::ListReply;
 use wal_types::Header;
-ghost use mathlib.Core.Path.{_≡_};
 ghost use mathlib.Core.Bool.{not};
 ghost use lib.Dec.{eqb};
 ghost use lib.ListN.{length};
@@ -14,68 +13,9 @@ ghost use Rattle.frame_index.specs.Record.{record-frame};
 ghost use Rattle.frame_index.specs.Rollback.{rollback-frames};
 ghost use Rattle.frame_index.specs.Find.{find-frame};
 ghost use Rattle.frame_list.specs.Latest.{iter-latest-frames};
-ghost use Rattle.index_boundary.specs.IndexReply.{find-reply, IndexReplied, watermark-given, FindReplied, list-reply, ListReplied};
-
-// The answer of a lookup in numbers. found: 1 if there is a frame.
-#[repr(C)]
-pub struct FindReply {
-    pub refusal: u32,
-    pub found: u32,
-    pub frame: u64,
-}
-
-// The answer of a list in numbers: how many pairs are in the first output cells.
-#[repr(C)]
-pub struct ListReply {
-    pub refusal: u32,
-    pub count: u64,
-}
-
-fn looked_up(answer: Found) -> FindReply
-    ensures { λ r. ⌜ r ≡ find-reply answer ⌝ }
-{
-    match answer {
-        Found::Frame(frame) => FindReply {
-            refusal: 0,
-            found: 1,
-            frame: frame,
-        },
-        Found::NoFrame => FindReply {
-            refusal: 0,
-            found: 0,
-            frame: 0,
-        },
-        Found::Refused(number) => FindReply {
-            refusal: number,
-            found: 0,
-            frame: 0,
-        },
-    }
-}
-
-fn listed(answer: List) -> ListReply
-    ensures { λ r. ⌜ r ≡ list-reply answer ⌝ }
-{
-    match answer {
-        List::Pairs(count) => ListReply {
-            refusal: 0,
-            count: count as u64,
-        },
-        List::Refused(number) => ListReply {
-            refusal: number,
-            count: 0,
-        },
-    }
-}
-
-fn watermark_of(has_watermark: u32, watermark: u64) -> Watermark
-    ensures { λ r. ⌜ r ≡ watermark-given «has_watermark» watermark ⌝ }
-{
-    if has_watermark == 0 {
-        return Watermark::NoWatermark;
-    }
-    Watermark::UpTo(watermark)
-}
+ghost use Rattle.index_replies.specs.IndexReply.{IndexReplied};
+ghost use Rattle.index_replies.specs.LookupReply.{watermark-given};
+ghost use Rattle.index_boundary.specs.LookupReplied.{FindReplied, ListReplied};
 
 // Appends the entry (page_id, frame_id). grow is the file's answer to a growth by one block: 0 no, else yes.
 #[no_mangle]
@@ -152,7 +92,7 @@ pub extern "C" fn wal_find_frame(
 ) -> FindReply
     ensures { λ r. ⌜ FindReplied (find-frame capacity «max_blocks» «page_id» «min_frame» «max_frame» (watermark-given «has_watermark» watermark)) header (now (pages .entry)) (now (frames .entry)) (now (hash .entry)) r ⌝ }
 {
-    let frame_watermark = watermark_of(has_watermark, watermark);
+    let frame_watermark = lookup_reply::watermark_of(has_watermark, watermark);
     let answer = find::find_frame(
         capacity,
         max_blocks,
@@ -165,7 +105,7 @@ pub extern "C" fn wal_find_frame(
         max_frame,
         frame_watermark,
     );
-    looked_up(answer)
+    lookup_reply::looked_up(answer)
 }
 
 // Lists each page's latest frame within the bounds, by rising page: pages to out_pages, frames to out_frames.
@@ -196,5 +136,5 @@ pub extern "C" fn wal_iter_latest_frames(
         out_pages,
         out_frames,
     );
-    listed(answer)
+    lookup_reply::listed(answer)
 }

@@ -1,3 +1,2 @@
 // The C functions of the frame index's calls. Each reads its numbers, makes one proved call and writes the answer as numbers.
 pub mod index_calls;
-pub mod index_reply;

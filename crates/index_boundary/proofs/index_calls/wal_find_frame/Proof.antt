@@ -1,14 +1,8 @@
 use Rattle.frame_index.specs.Find.{find-frame}
-use Rattle.index_boundary.proofs.IndexReplies.{find-told}
-use native.Mathlib.Omega.{arith}
+use Rattle.index_boundary.proofs.LookupReplies.{find-told}
 use borrow.Author.Needs.{needs}
 use Rattle.index_boundary.proofs.index_calls.wal_find_frame.Statement.{statement}
 use Rattle.index_boundary.proofs.index_calls.wal_find_frame.Tie as tie
-use Rattle.index_boundary.proofs.index_calls.wal_find_frame.Reads as reads
-use Rattle.index_boundary.proofs.index_calls.wal_find_frame.Lts as lts
-use Rattle.frame_index.proofs.find.find_frame.Reads as find-frame-reads
-use Rattle.index_boundary.proofs.index_calls.looked_up.Reads as looked-up-reads
-use Rattle.index_boundary.proofs.index_calls.watermark_of.Reads as watermark-of-reads
 
 watermark-of-requires : tie.Need-watermark-of-requires
 watermark-of-requires c κs = search needs

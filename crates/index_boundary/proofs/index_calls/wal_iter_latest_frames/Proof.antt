@@ -1,14 +1,9 @@
-use Rattle.index_boundary.proofs.IndexReplies.{list-told}
+use Rattle.index_boundary.proofs.LookupReplies.{list-told}
 use Rattle.frame_list.specs.Latest.{iter-latest-frames}
 use lib.ListN.{length}
-use native.Mathlib.Omega.{arith}
 use borrow.Author.Needs.{needs}
 use Rattle.index_boundary.proofs.index_calls.wal_iter_latest_frames.Statement.{statement}
 use Rattle.index_boundary.proofs.index_calls.wal_iter_latest_frames.Tie as tie
-use Rattle.index_boundary.proofs.index_calls.wal_iter_latest_frames.Reads as reads
-use Rattle.index_boundary.proofs.index_calls.wal_iter_latest_frames.Lts as lts
-use Rattle.frame_list.proofs.iter_latest_frames.Reads as iter-latest-frames-reads
-use Rattle.index_boundary.proofs.index_calls.listed.Reads as listed-reads
 
 iter-latest-frames-requires : tie.Need-iter-latest-frames-requires
 iter-latest-frames-requires c κs = search needs

@@ -46,23 +46,23 @@ use Rattle.wal_types.specs.declared.Header.{Header}
 use Rattle.wal_types.proofs.Header as T
 use Rattle.wal_types.proofs.Header.Laws as T′
 use Rattle.frame_index.specs.Rollback.{rollback-frames}
-use Rattle.index_boundary.specs.declared.index_reply.IndexReply.{IndexReply}
-use Rattle.index_boundary.specs.declared.index_reply.IndexCells.{IndexCells}
-use Rattle.index_boundary.specs.declared.index_reply.IndexLeft.{IndexLeft}
-use Rattle.index_boundary.specs.IndexReply.{with-cells, IndexReplied}
-use Rattle.index_boundary.proofs.index_reply.IndexReply as Rep
-use Rattle.index_boundary.proofs.index_reply.IndexReply.Laws as Rep′
-use Rattle.index_boundary.proofs.index_reply.IndexCells as K
-use Rattle.index_boundary.proofs.index_reply.IndexCells.Laws as K′
-use Rattle.index_boundary.proofs.index_reply.IndexLeft as B
-use Rattle.index_boundary.proofs.index_reply.IndexLeft.Laws as B′
+use Rattle.index_replies.specs.declared.index_reply.IndexReply.{IndexReply}
+use Rattle.index_replies.specs.declared.index_reply.IndexCells.{IndexCells}
+use Rattle.index_replies.specs.declared.index_reply.IndexLeft.{IndexLeft}
+use Rattle.index_replies.specs.IndexReply.{with-cells, IndexReplied}
+use Rattle.index_replies.proofs.index_reply.IndexReply as Rep
+use Rattle.index_replies.proofs.index_reply.IndexReply.Laws as Rep′
+use Rattle.index_replies.proofs.index_reply.IndexCells as K
+use Rattle.index_replies.proofs.index_reply.IndexCells.Laws as K′
+use Rattle.index_replies.proofs.index_reply.IndexLeft as B
+use Rattle.index_replies.proofs.index_reply.IndexLeft.Laws as B′
 use Rattle.index_boundary.proofs.IndexParts.{R, mach, reply-val, header-of, reply-of}
-use Rattle.index_boundary.proofs.index_reply.left as left
-use Rattle.index_boundary.proofs.index_reply.left.Symbol as left-def
-use Rattle.index_boundary.proofs.index_reply.left.Met as left-thm
-use Rattle.index_boundary.proofs.index_reply.rollback_frames as core
-use Rattle.index_boundary.proofs.index_reply.rollback_frames.Symbol as core-def
-use Rattle.index_boundary.proofs.index_reply.rollback_frames.Met as core-thm
+use Rattle.index_replies.proofs.index_reply.left as left
+use Rattle.index_replies.proofs.index_reply.left.Symbol as left-def
+use Rattle.index_replies.proofs.index_reply.left.Met as left-thm
+use Rattle.index_replies.proofs.index_reply.rollback_frames as core
+use Rattle.index_replies.proofs.index_reply.rollback_frames.Symbol as core-def
+use Rattle.index_replies.proofs.index_reply.rollback_frames.Met as core-thm
 use Rattle.index_boundary.proofs.index_calls.wal_rollback_frames.Key as key
 use Rattle.index_boundary.proofs.index_calls.wal_rollback_frames as entry
 use Rattle.index_boundary.proofs.index_calls.wal_rollback_frames.Statement as stated
@@ -209,5 +209,5 @@ wal-rollback-frames-spec 𝓤 H 𝓜 𝓖 𝓡 =
     entered 𝓤 H (tripleOf 𝓤 H (𝓖 .A) entry.signature (entry.spec 𝓤 H (𝓖 .A) (𝓜 .mem) (𝓡 .run)))
     (tables 𝓤 H 𝓜 𝓡 code.env .C) (tables 𝓤 H 𝓜 𝓡 code.env .Λ) key.name code.function (code.unfolded 𝓤 H 𝓜 𝓡)
     (entry-meets 𝓤 H (𝓖 .A) (givenOf 𝓤 H 𝓜 𝓖) (𝓜 .mem) (𝓡 .run) (tablesOf 𝓤 H 𝓜 (tables 𝓤 H 𝓜 𝓡 code.env))
-    (cited 𝓤 H (Core 𝓤 H (𝓖 .A) (𝓜 .mem) (𝓡 .run)) 𝓜 𝓡 code.env core-def.name core-def.routine code.calls-index-boundary·index-reply·rollback-frames (core-thm.met 𝓤 H 𝓜 𝓖 𝓡))
-    (cited 𝓤 H (Left 𝓤 H (𝓖 .A) (𝓜 .mem) (𝓡 .run)) 𝓜 𝓡 code.env left-def.name left-def.routine code.calls-index-boundary·index-reply·left (left-thm.met 𝓤 H 𝓜 𝓖 𝓡)))
+    (cited 𝓤 H (Core 𝓤 H (𝓖 .A) (𝓜 .mem) (𝓡 .run)) 𝓜 𝓡 code.env core-def.name core-def.routine code.calls-index-replies·index-reply·rollback-frames (core-thm.met 𝓤 H 𝓜 𝓖 𝓡))
+    (cited 𝓤 H (Left 𝓤 H (𝓖 .A) (𝓜 .mem) (𝓡 .run)) 𝓜 𝓡 code.env left-def.name left-def.routine code.calls-index-replies·index-reply·left (left-thm.met 𝓤 H 𝓜 𝓖 𝓡)))

@@ -1,10 +1,6 @@
-use native.Mathlib.Omega.{arith}
 use borrow.Author.Needs.{needs}
-use Rattle.index_boundary.proofs.index_reply.rolled_back.Statement.{statement}
-use Rattle.index_boundary.proofs.index_reply.rolled_back.Tie as tie
-use Rattle.index_boundary.proofs.index_reply.rolled_back.Reads as reads
-use Rattle.index_boundary.proofs.index_reply.rolled_back.Lts as lts
-use Rattle.index_boundary.proofs.index_reply.cells_of.Reads as cells-of-reads
+use Rattle.index_replies.proofs.index_reply.rolled_back.Statement.{statement}
+use Rattle.index_replies.proofs.index_reply.rolled_back.Tie as tie
 
 enum-known-answer : tie.Need-enum-known-answer
 enum-known-answer c = search needs

@@ -9,7 +9,7 @@ ghost use mathlib.Core.Bool.{not};
 ghost use lib.Dec.{eqb};
 ghost use Rattle.frame_index.specs.Record.{record-frame};
 ghost use Rattle.frame_index.specs.Rollback.{rollback-frames};
-ghost use Rattle.index_boundary.specs.IndexReply.{cells-of, record-cells, rollback-cells, with-cells, IndexReplied};
+ghost use Rattle.index_replies.specs.IndexReply.{cells-of, record-cells, rollback-cells, with-cells, IndexReplied};
 
 // The answer of a record or a rollback in numbers. refusal: 0, or the number of the refusal. answer: 1 stored, 0 dropped;
 // for a rollback the kept length.

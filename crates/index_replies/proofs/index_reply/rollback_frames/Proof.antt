@@ -1,14 +1,9 @@
 use Rattle.frame_index.specs.Rollback.{rollback-frames}
-use Rattle.index_boundary.proofs.IndexStores.{rolled-stores}
-use Rattle.index_boundary.proofs.IndexReplies.{rollback-told}
-use native.Mathlib.Omega.{arith}
+use Rattle.index_replies.proofs.IndexStores.{rolled-stores}
+use Rattle.index_replies.proofs.IndexReplies.{rollback-told}
 use borrow.Author.Needs.{needs}
-use Rattle.index_boundary.proofs.index_reply.rollback_frames.Statement.{statement}
-use Rattle.index_boundary.proofs.index_reply.rollback_frames.Tie as tie
-use Rattle.index_boundary.proofs.index_reply.rollback_frames.Reads as reads
-use Rattle.index_boundary.proofs.index_reply.rollback_frames.Lts as lts
-use Rattle.frame_index.proofs.rollback.rollback_frames.Reads as rollback-frames-reads
-use Rattle.index_boundary.proofs.index_reply.rolled_back.Reads as rolled-back-reads
+use Rattle.index_replies.proofs.index_reply.rollback_frames.Statement.{statement}
+use Rattle.index_replies.proofs.index_reply.rollback_frames.Tie as tie
 
 rollback-frames-requires : tie.Need-rollback-frames-requires
 rollback-frames-requires c κs = search needs

@@ -1,16 +1,11 @@
 use mathlib.Core.Bool.{not}
 use lib.Dec.{eqb}
 use Rattle.frame_index.specs.Record.{record-frame}
-use Rattle.index_boundary.proofs.IndexStores.{record-stores}
-use Rattle.index_boundary.proofs.IndexReplies.{record-told}
-use native.Mathlib.Omega.{arith}
+use Rattle.index_replies.proofs.IndexStores.{record-stores}
+use Rattle.index_replies.proofs.IndexReplies.{record-told}
 use borrow.Author.Needs.{needs}
-use Rattle.index_boundary.proofs.index_reply.record_frame.Statement.{statement}
-use Rattle.index_boundary.proofs.index_reply.record_frame.Tie as tie
-use Rattle.index_boundary.proofs.index_reply.record_frame.Reads as reads
-use Rattle.index_boundary.proofs.index_reply.record_frame.Lts as lts
-use Rattle.frame_index.proofs.record.record_frame.Reads as record-frame-reads
-use Rattle.index_boundary.proofs.index_reply.recorded.Reads as recorded-reads
+use Rattle.index_replies.proofs.index_reply.record_frame.Statement.{statement}
+use Rattle.index_replies.proofs.index_reply.record_frame.Tie as tie
 
 record-frame-requires : tie.Need-record-frame-requires
 record-frame-requires c κs = search needs

@@ -1,9 +1,6 @@
-use native.Mathlib.Omega.{arith}
 use borrow.Author.Needs.{needs}
-use Rattle.index_boundary.proofs.index_calls.looked_up.Statement.{statement}
-use Rattle.index_boundary.proofs.index_calls.looked_up.Tie as tie
-use Rattle.index_boundary.proofs.index_calls.looked_up.Reads as reads
-use Rattle.index_boundary.proofs.index_calls.looked_up.Lts as lts
+use Rattle.index_replies.proofs.lookup_reply.looked_up.Statement.{statement}
+use Rattle.index_replies.proofs.lookup_reply.looked_up.Tie as tie
 
 enum-known-answer : tie.Need-enum-known-answer
 enum-known-answer c = search needs

@@ -1,9 +1,6 @@
-use native.Mathlib.Omega.{arith}
 use borrow.Author.Needs.{needs}
-use Rattle.index_boundary.proofs.index_calls.listed.Statement.{statement}
-use Rattle.index_boundary.proofs.index_calls.listed.Tie as tie
-use Rattle.index_boundary.proofs.index_calls.listed.Reads as reads
-use Rattle.index_boundary.proofs.index_calls.listed.Lts as lts
+use Rattle.index_replies.proofs.lookup_reply.listed.Statement.{statement}
+use Rattle.index_replies.proofs.lookup_reply.listed.Tie as tie
 
 enum-known-answer : tie.Need-enum-known-answer
 enum-known-answer c = search needs

@@ -1,0 +1,3 @@
+-- Laws of the replies.
+mod IndexStores
+mod IndexReplies

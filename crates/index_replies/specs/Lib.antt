@@ -1,0 +1,3 @@
+-- The index calls' replies.
+pub mod IndexReply
+pub mod LookupReply
