@@ -1,6 +1,5 @@
--- Laws of the replies.
+-- Walks of the C functions of the header calls.
 mod LockParts
 mod Bumps
 mod Acquires
 mod Releases
-mod Replies

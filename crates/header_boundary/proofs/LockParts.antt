@@ -8,12 +8,12 @@ use denote.Struct.Laws as StructLaws
 use Rattle.wal_types.specs.declared.Header.{Header}
 use Rattle.wal_types.proofs.Header as T
 use Rattle.wal_types.proofs.Header.Laws as T′
-use Rattle.header_boundary.specs.declared.lock_reply.LockReply.{LockReply}
-use Rattle.header_boundary.specs.declared.lock_reply.LockLeft.{LockLeft}
-use Rattle.header_boundary.proofs.lock_reply.LockReply as Rep
-use Rattle.header_boundary.proofs.lock_reply.LockReply.Laws as Rep′
-use Rattle.header_boundary.proofs.lock_reply.LockLeft as B
-use Rattle.header_boundary.proofs.lock_reply.LockLeft.Laws as B′
+use Rattle.header_replies.specs.declared.lock_reply.LockReply.{LockReply}
+use Rattle.header_replies.specs.declared.lock_reply.LockLeft.{LockLeft}
+use Rattle.header_replies.proofs.lock_reply.LockReply as Rep
+use Rattle.header_replies.proofs.lock_reply.LockReply.Laws as Rep′
+use Rattle.header_replies.proofs.lock_reply.LockLeft as B
+use Rattle.header_replies.proofs.lock_reply.LockLeft.Laws as B′
 
 -- the header's row; the machine values of a header and of a reply
 abbrev pub R : RattleType

@@ -39,14 +39,14 @@ use denote.Exit.{yes}
 use Rattle.wal_types.specs.declared.Header.{Header}
 use Rattle.wal_types.proofs.Header as T
 use Rattle.wal_types.proofs.Header.Laws as T′
-use Rattle.header_boundary.specs.declared.lock_reply.LockReply.{LockReply}
-use Rattle.header_boundary.specs.declared.lock_reply.LockLeft.{LockLeft}
-use Rattle.header_boundary.proofs.lock_reply.LockReply as Rep
-use Rattle.header_boundary.proofs.lock_reply.LockReply.Laws as Rep′
-use Rattle.header_boundary.proofs.lock_reply.LockLeft as B
-use Rattle.header_boundary.proofs.lock_reply.LockLeft.Laws as B′
+use Rattle.header_replies.specs.declared.lock_reply.LockReply.{LockReply}
+use Rattle.header_replies.specs.declared.lock_reply.LockLeft.{LockLeft}
+use Rattle.header_replies.proofs.lock_reply.LockReply as Rep
+use Rattle.header_replies.proofs.lock_reply.LockReply.Laws as Rep′
+use Rattle.header_replies.proofs.lock_reply.LockLeft as B
+use Rattle.header_replies.proofs.lock_reply.LockLeft.Laws as B′
 use Rattle.header_boundary.proofs.LockParts.{R, mach, reply-val, header-of, reply-of}
-use Rattle.header_boundary.proofs.lock_reply.release_writer as core
+use Rattle.header_replies.proofs.lock_reply.release_writer as core
 use Rattle.header_boundary.proofs.header_calls.wal_release_writer as entry
 
 -- only what lies behind the header's parameter can differ at the end

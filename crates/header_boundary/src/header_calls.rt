@@ -1,8 +1,8 @@
 // Owners, publishes, bumps and the two locks. The header is lent: one proved call is given it by value, and what that call
 // leaves is stored over it.
-use crate::lock_reply;
-use crate::lock_reply::LockReply;
 use header::publish;
+use header_replies::lock_reply;
+use header_replies::lock_reply::LockReply;
 use wal_types::Header;
 use wal_types::SharedOwnerRecord;
 ghost use mathlib.Core.Path.{_≡_};
@@ -12,7 +12,7 @@ ghost use Rattle.wal_types.specs.Call.{ok, value};
 ghost use Rattle.header.specs.Publish.{publish-commit, publish-backfill, bump-checkpoint-seq, bump-checkpoint-epoch, HeaderCall};
 ghost use Rattle.header.specs.Locks.{try-acquire, release};
 ghost use Rattle.replies.specs.Mode.{mode-given, with-mode};
-ghost use Rattle.header_boundary.specs.LockReply.{LockReplied};
+ghost use Rattle.header_replies.specs.LockReply.{LockReplied};
 
 // An owner's number: the process id in its high 32 bits, the instance id in its low 32.
 #[no_mangle]

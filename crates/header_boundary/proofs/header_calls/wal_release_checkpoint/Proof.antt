@@ -7,12 +7,12 @@ use denote.Triple.Table.{entered, cited}
 use Rattle.wal_types.specs.declared.Header.{Header}
 use Rattle.header.specs.declared.locks.Lock.the-variants.{Checkpoint}
 use Rattle.header.specs.Locks.{release}
-use Rattle.header_boundary.specs.declared.lock_reply.LockReply.{LockReply}
+use Rattle.header_replies.specs.declared.lock_reply.LockReply.{LockReply}
 use Rattle.replies.specs.Mode.{mode-given, with-mode}
-use Rattle.header_boundary.specs.LockReply.{LockReplied}
+use Rattle.header_replies.specs.LockReply.{LockReplied}
 use Rattle.header_boundary.proofs.Releases.{Core, entry-meets}
-use Rattle.header_boundary.proofs.lock_reply.release_checkpoint.Symbol as core
-use Rattle.header_boundary.proofs.lock_reply.release_checkpoint.Met as core-thm
+use Rattle.header_replies.proofs.lock_reply.release_checkpoint.Symbol as core
+use Rattle.header_replies.proofs.lock_reply.release_checkpoint.Met as core-thm
 use Rattle.header_boundary.proofs.header_calls.wal_release_checkpoint.Key as key
 use Rattle.header_boundary.proofs.header_calls.wal_release_checkpoint as entry
 use Rattle.header_boundary.proofs.header_calls.wal_release_checkpoint.Statement as stated

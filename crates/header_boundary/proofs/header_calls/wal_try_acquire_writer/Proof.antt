@@ -7,11 +7,11 @@ use denote.Triple.Table.{entered, cited}
 use Rattle.wal_types.specs.declared.Header.{Header}
 use Rattle.header.specs.declared.locks.Lock.the-variants.{Writer}
 use Rattle.header.specs.Locks.{try-acquire}
-use Rattle.header_boundary.specs.declared.lock_reply.LockReply.{LockReply}
-use Rattle.header_boundary.specs.LockReply.{LockReplied}
+use Rattle.header_replies.specs.declared.lock_reply.LockReply.{LockReply}
+use Rattle.header_replies.specs.LockReply.{LockReplied}
 use Rattle.header_boundary.proofs.Acquires.{Core, entry-meets}
-use Rattle.header_boundary.proofs.lock_reply.try_acquire_writer.Symbol as core
-use Rattle.header_boundary.proofs.lock_reply.try_acquire_writer.Met as core-thm
+use Rattle.header_replies.proofs.lock_reply.try_acquire_writer.Symbol as core
+use Rattle.header_replies.proofs.lock_reply.try_acquire_writer.Met as core-thm
 use Rattle.header_boundary.proofs.header_calls.wal_try_acquire_writer.Key as key
 use Rattle.header_boundary.proofs.header_calls.wal_try_acquire_writer as entry
 use Rattle.header_boundary.proofs.header_calls.wal_try_acquire_writer.Statement as stated

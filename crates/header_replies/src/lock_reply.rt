@@ -5,12 +5,11 @@ use header::locks::Release;
 use replies::Mode;
 use wal_types::Header;
 use wal_types::SharedOwnerRecord;
-use wal_types::SharedWalOwnershipMode;
 ghost use mathlib.Core.Path.{_≡_};
 ghost use Rattle.header.specs.declared.locks.Lock.the-variants.{Writer, Checkpoint};
 ghost use Rattle.header.specs.Locks.{try-acquire, release, release-answer, release-header, release-local, LockCall};
 ghost use Rattle.replies.specs.Mode.{mode-given, with-mode};
-ghost use Rattle.header_boundary.specs.LockReply.{owners-of, acquire-owners, release-owners, with-owners, LockReplied};
+ghost use Rattle.header_replies.specs.LockReply.{owners-of, acquire-owners, release-owners, with-owners, LockReplied};
 
 // A lock call's answer in numbers. refusal: 0, or the number of the refusal. answer: 1 if the lock was taken or
 // released, else 0. local_owner is as the call leaves it: after a refusal, as it was given.

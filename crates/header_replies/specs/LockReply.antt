@@ -11,9 +11,9 @@ use Rattle.header.specs.declared.locks.Acquire.the-variants.{Taken, Busy, Refus
 use Rattle.header.specs.declared.locks.Release.{Release}
 use Rattle.header.specs.declared.locks.Release.the-variants.{Released, Refused as NotReleased}
 use Rattle.header.specs.Locks.{with-local-owner}
-use Rattle.header_boundary.specs.declared.lock_reply.LockReply.{LockReply}
-use Rattle.header_boundary.specs.declared.lock_reply.Owners.{Owners}
-use Rattle.header_boundary.specs.declared.lock_reply.LockLeft.{LockLeft}
+use Rattle.header_replies.specs.declared.lock_reply.LockReply.{LockReply}
+use Rattle.header_replies.specs.declared.lock_reply.Owners.{Owners}
+use Rattle.header_replies.specs.declared.lock_reply.LockLeft.{LockLeft}
 use Rattle.replies.specs.Reply.{refusal-number, answer-number}
 
 -- The reply and the owners of each case of a lock call's answer, with the header and the local owner that were given.

@@ -1,16 +1,10 @@
 use Rattle.header.specs.declared.locks.Lock.the-variants.{Checkpoint}
 use Rattle.header.specs.Locks.{release}
 use Rattle.replies.specs.Mode.{mode-given, with-mode}
-use Rattle.header_boundary.proofs.Replies.{moded-stores, release-told}
-use native.Mathlib.Omega.{arith}
+use Rattle.header_replies.proofs.LockReplies.{moded-stores, release-told}
 use borrow.Author.Needs.{needs}
-use Rattle.header_boundary.proofs.lock_reply.release_checkpoint.Statement.{statement}
-use Rattle.header_boundary.proofs.lock_reply.release_checkpoint.Tie as tie
-use Rattle.header_boundary.proofs.lock_reply.release_checkpoint.Reads as reads
-use Rattle.header_boundary.proofs.lock_reply.release_checkpoint.Lts as lts
-use Rattle.header_boundary.proofs.lock_reply.checkpoint_released.Reads as checkpoint-released-reads
-use Rattle.header_boundary.proofs.lock_reply.left.Reads as left-reads
-use Rattle.header_boundary.proofs.lock_reply.released.Reads as released-reads
+use Rattle.header_replies.proofs.lock_reply.release_checkpoint.Statement.{statement}
+use Rattle.header_replies.proofs.lock_reply.release_checkpoint.Tie as tie
 
 checkpoint-released-requires : tie.Need-checkpoint-released-requires
 checkpoint-released-requires c κs = search needs

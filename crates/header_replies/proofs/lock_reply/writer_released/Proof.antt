@@ -2,15 +2,10 @@ use mathlib.Core.Path.{sym, _∙_}
 use Rattle.header.specs.declared.locks.Lock.the-variants.{Writer}
 use Rattle.header.specs.Locks.{release, release-answer, release-header, release-local}
 use Rattle.replies.specs.Mode.{mode-given}
-use Rattle.header_boundary.proofs.Replies.{unknown-call, given-call}
-use native.Mathlib.Omega.{arith}
+use Rattle.header_replies.proofs.LockReplies.{unknown-call, given-call}
 use borrow.Author.Needs.{needs}
-use Rattle.header_boundary.proofs.lock_reply.writer_released.Statement.{statement}
-use Rattle.header_boundary.proofs.lock_reply.writer_released.Tie as tie
-use Rattle.header_boundary.proofs.lock_reply.writer_released.Reads as reads
-use Rattle.header_boundary.proofs.lock_reply.writer_released.Lts as lts
-use Rattle.header.proofs.locks.release_writer.Reads as release-writer-reads
-use Rattle.replies.proofs.mode_of.Reads as mode-of-reads
+use Rattle.header_replies.proofs.lock_reply.writer_released.Statement.{statement}
+use Rattle.header_replies.proofs.lock_reply.writer_released.Tie as tie
 
 mode-of-requires : tie.Need-mode-of-requires
 mode-of-requires c κs = search needs

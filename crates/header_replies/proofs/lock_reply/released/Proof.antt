@@ -1,10 +1,6 @@
-use native.Mathlib.Omega.{arith}
 use borrow.Author.Needs.{needs}
-use Rattle.header_boundary.proofs.lock_reply.released.Statement.{statement}
-use Rattle.header_boundary.proofs.lock_reply.released.Tie as tie
-use Rattle.header_boundary.proofs.lock_reply.released.Reads as reads
-use Rattle.header_boundary.proofs.lock_reply.released.Lts as lts
-use Rattle.header_boundary.proofs.lock_reply.owners_of.Reads as owners-of-reads
+use Rattle.header_replies.proofs.lock_reply.released.Statement.{statement}
+use Rattle.header_replies.proofs.lock_reply.released.Tie as tie
 
 enum-known-answer : tie.Need-enum-known-answer
 enum-known-answer c = search needs

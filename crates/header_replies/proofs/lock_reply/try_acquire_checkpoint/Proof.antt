@@ -1,15 +1,9 @@
 use Rattle.header.specs.declared.locks.Lock.the-variants.{Checkpoint}
 use Rattle.header.specs.Locks.{try-acquire}
-use Rattle.header_boundary.proofs.Replies.{acquire-stores, acquire-told}
-use native.Mathlib.Omega.{arith}
+use Rattle.header_replies.proofs.LockReplies.{acquire-stores, acquire-told}
 use borrow.Author.Needs.{needs}
-use Rattle.header_boundary.proofs.lock_reply.try_acquire_checkpoint.Statement.{statement}
-use Rattle.header_boundary.proofs.lock_reply.try_acquire_checkpoint.Tie as tie
-use Rattle.header_boundary.proofs.lock_reply.try_acquire_checkpoint.Reads as reads
-use Rattle.header_boundary.proofs.lock_reply.try_acquire_checkpoint.Lts as lts
-use Rattle.header.proofs.locks.try_acquire_checkpoint.Reads as try-acquire-checkpoint-reads
-use Rattle.header_boundary.proofs.lock_reply.acquired.Reads as acquired-reads
-use Rattle.header_boundary.proofs.lock_reply.left.Reads as left-reads
+use Rattle.header_replies.proofs.lock_reply.try_acquire_checkpoint.Statement.{statement}
+use Rattle.header_replies.proofs.lock_reply.try_acquire_checkpoint.Tie as tie
 
 try-acquire-checkpoint-requires : tie.Need-try-acquire-checkpoint-requires
 try-acquire-checkpoint-requires c κs = search needs

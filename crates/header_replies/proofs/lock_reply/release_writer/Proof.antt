@@ -1,16 +1,10 @@
 use Rattle.header.specs.declared.locks.Lock.the-variants.{Writer}
 use Rattle.header.specs.Locks.{release}
 use Rattle.replies.specs.Mode.{mode-given, with-mode}
-use Rattle.header_boundary.proofs.Replies.{moded-stores, release-told}
-use native.Mathlib.Omega.{arith}
+use Rattle.header_replies.proofs.LockReplies.{moded-stores, release-told}
 use borrow.Author.Needs.{needs}
-use Rattle.header_boundary.proofs.lock_reply.release_writer.Statement.{statement}
-use Rattle.header_boundary.proofs.lock_reply.release_writer.Tie as tie
-use Rattle.header_boundary.proofs.lock_reply.release_writer.Reads as reads
-use Rattle.header_boundary.proofs.lock_reply.release_writer.Lts as lts
-use Rattle.header_boundary.proofs.lock_reply.left.Reads as left-reads
-use Rattle.header_boundary.proofs.lock_reply.released.Reads as released-reads
-use Rattle.header_boundary.proofs.lock_reply.writer_released.Reads as writer-released-reads
+use Rattle.header_replies.proofs.lock_reply.release_writer.Statement.{statement}
+use Rattle.header_replies.proofs.lock_reply.release_writer.Tie as tie
 
 writer-released-requires : tie.Need-writer-released-requires
 writer-released-requires c κs = search needs

@@ -1,15 +1,9 @@
 use Rattle.header.specs.declared.locks.Lock.the-variants.{Writer}
 use Rattle.header.specs.Locks.{try-acquire}
-use Rattle.header_boundary.proofs.Replies.{acquire-stores, acquire-told}
-use native.Mathlib.Omega.{arith}
+use Rattle.header_replies.proofs.LockReplies.{acquire-stores, acquire-told}
 use borrow.Author.Needs.{needs}
-use Rattle.header_boundary.proofs.lock_reply.try_acquire_writer.Statement.{statement}
-use Rattle.header_boundary.proofs.lock_reply.try_acquire_writer.Tie as tie
-use Rattle.header_boundary.proofs.lock_reply.try_acquire_writer.Reads as reads
-use Rattle.header_boundary.proofs.lock_reply.try_acquire_writer.Lts as lts
-use Rattle.header.proofs.locks.try_acquire_writer.Reads as try-acquire-writer-reads
-use Rattle.header_boundary.proofs.lock_reply.acquired.Reads as acquired-reads
-use Rattle.header_boundary.proofs.lock_reply.left.Reads as left-reads
+use Rattle.header_replies.proofs.lock_reply.try_acquire_writer.Statement.{statement}
+use Rattle.header_replies.proofs.lock_reply.try_acquire_writer.Tie as tie
 
 try-acquire-writer-requires : tie.Need-try-acquire-writer-requires
 try-acquire-writer-requires c κs = search needs

@@ -17,11 +17,11 @@ use Rattle.header.specs.declared.locks.Acquire.the-variants.{Taken, Busy, Refus
 use Rattle.header.specs.declared.locks.Release.{Release}
 use Rattle.header.specs.declared.locks.Release.the-variants.{Released, Refused as NotReleased}
 use Rattle.header.specs.Locks.{owner-cell, try-acquire, acquire-tests, acquires, release, release-tests, releases, local-owner, with-local-owner, acquire-answer, acquire-header, acquire-local, release-answer, release-header, release-local, LockCall}
-use Rattle.header_boundary.specs.declared.lock_reply.LockReply.{LockReply}
+use Rattle.header_replies.specs.declared.lock_reply.LockReply.{LockReply}
 use Rattle.replies.specs.declared.Mode.{Mode}
 use Rattle.replies.specs.declared.Mode.the-variants.{Given, Unknown}
 use Rattle.replies.specs.Reply.{refusal-number, answer-number}
-use Rattle.header_boundary.specs.LockReply.{acquire-owners, release-owners, with-owners, LockReplied}
+use Rattle.header_replies.specs.LockReply.{acquire-owners, release-owners, with-owners, LockReplied}
 use Rattle.replies.specs.Mode.{with-mode}
 use Rattle.replies.proofs.Touched.{taken-from, AllInside, outside-stays, all-of-unless}
 

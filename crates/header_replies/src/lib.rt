@@ -1,0 +1,2 @@
+// The lock calls' answers in numbers, for the C functions.
+pub mod lock_reply;
