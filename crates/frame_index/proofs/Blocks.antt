@@ -8,6 +8,11 @@ use lib.Seq.{take-at, drop-at, drop-drop, getD-take, getD-drop, length-take-le, 
 use borrow.Rule.Slice.PartMut.{putMid, set-mid-at}
 use Rattle.frame_index.specs.Index.{block-cells-of, block-pages-of, with-block}
 
+-- page i of block k
+pub block-page : (k : ℕ) (ps : List ℕ) (i : ℕ) → i < 4096 → getD (block-pages-of k ps) i 0 ≡ getD ps (4096 * k + i) 0
+unfolding block-pages-of
+block-page k ps i l = getD-take {A = ℕ} 4096 (drop (4096 * k) ps) i 0 l ∙ getD-drop {A = ℕ} (4096 * k) ps i 0
+
 module _ (k : ℕ) (h : List ℕ) where
   -- the part that is lent of block k
   pub mid-cells : take (8192 * k + 8192 - 8192 * k) (drop (8192 * k) h) ≡ block-cells-of k h

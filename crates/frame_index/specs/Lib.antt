@@ -1,6 +1,3 @@
--- The calls on the frame index, in document 01's order.
+-- The frame index: what all calls on it share, and the lookup.
 pub mod Index
-pub mod Record
-pub mod Plan
-pub mod Rollback
 pub mod Find

@@ -2,5 +2,3 @@
 // of 4,096; each block has a hash table over its entries' pages. Entry n is the pair (pages[n], frames[n]).
 pub mod find;
 pub mod index;
-pub mod record;
-pub mod rollback;

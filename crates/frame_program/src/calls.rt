@@ -5,9 +5,9 @@ use crate::state::State;
 use columns::answer::Answer;
 use frame_index::find::Found;
 use frame_index::find::Watermark;
-use frame_index::record::Record;
-use frame_index::rollback::Rollback;
 use frame_list::List;
+use frame_record::record::Record;
+use frame_record::rollback::Rollback;
 ghost use Prim.Native.Nat.{_≤_};
 ghost use lib.ListN.{length};
 
@@ -50,7 +50,7 @@ pub fn record(
     requires { ⌜ 26 ≤ length (now out) ⌝ }
 {
     let header = state.header;
-    let done = frame_index::record::record_frame(
+    let done = frame_record::record::record_frame(
         CAPACITY,
         MAX_BLOCKS,
         header,
@@ -92,7 +92,7 @@ pub fn rollback(
     requires { ⌜ 26 ≤ length (now out) ⌝ }
 {
     let header = state.header;
-    let done = frame_index::rollback::rollback_frames(
+    let done = frame_record::rollback::rollback_frames(
         CAPACITY,
         MAX_BLOCKS,
         header,

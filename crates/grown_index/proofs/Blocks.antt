@@ -10,8 +10,7 @@ use lib.Seq.{take-append-le, drop-append-le, getD-set-other, length-take-le}
 use Rattle.hash_block.specs.Block.{built}
 use Rattle.hash_block.proofs.Built.{built-agree, built-length}
 use Rattle.frame_index.specs.Index.{block-cells-of, block-pages-of, with-block}
-use Rattle.frame_index.proofs.Blocks.{block-of-with}
-use Rattle.frame_index.proofs.RolledBack.{block-page}
+use Rattle.frame_index.proofs.Blocks.{block-page, block-of-with}
 use Rattle.grown_index.specs.Grown.{BlocksBuilt}
 
 -- a block's cells are those of the cells before a later block

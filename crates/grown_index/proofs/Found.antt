@@ -20,7 +20,7 @@ use Rattle.frame_index.specs.declared.find.Lookup.{Lookup}
 use Rattle.frame_index.specs.declared.find.Lookup.the-variants.{Frame, NoFrame}
 use Rattle.frame_index.specs.Index.{block-cells-of, block-pages-of}
 use Rattle.frame_index.specs.Find.{visible, probe-block, looked-up, else-look, find-in, blocks-for, lookup-answer, find-answer}
-use Rattle.frame_index.proofs.RolledBack.{block-page}
+use Rattle.frame_index.proofs.Blocks.{block-page}
 use Rattle.grown_index.specs.Entries.{entries-of, entries, higher, frame-in, greatest}
 use Rattle.grown_index.specs.Grown.{FramesRise, BlocksBuilt, Grown}
 use Rattle.grown_index.proofs.Lists.{greatest-more, greatest-none, greatest-crossed, frame-other, frame-below, frame-above, frame-here, higher-none, IsGreatest, greatest-is}

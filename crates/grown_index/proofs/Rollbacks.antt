@@ -14,9 +14,9 @@ use Rattle.wal_types.specs.Call.{refused, kept, Done, done, after}
 use Rattle.hash_block.specs.Block.{built}
 use Rattle.hash_block.proofs.Built.{built-length}
 use Rattle.frame_index.specs.Index.{index-refusal, block-of, place-of, block-pages-of, with-block, index-in}
-use Rattle.frame_index.specs.Rollback.{kept-len, rollback-frames}
+use Rattle.frame_record.specs.Rollback.{kept-len, rollback-frames}
 use Rattle.frame_index.proofs.Blocks.{length-with}
-use Rattle.frame_index.proofs.RolledBack.{rollback-refused, rollback-none, rollback-even, rollback-odd}
+use Rattle.frame_record.proofs.RolledBack.{rollback-refused, rollback-none, rollback-even, rollback-odd}
 use Rattle.grown_index.specs.Entries.{entries-of, entries, taken-off, up-to}
 use Rattle.grown_index.specs.Grown.{BlocksBuilt, Grown}
 use Rattle.grown_index.specs.Calls.{RollbackLeaves, SameReaders}

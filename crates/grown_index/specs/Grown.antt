@@ -10,8 +10,8 @@ use Rattle.wal_types.specs.Call.{after}
 use Rattle.wal_types.specs.Fresh.{Fresh}
 use Rattle.hash_block.specs.Block.{built}
 use Rattle.frame_index.specs.Index.{block-cells-of, block-pages-of}
-use Rattle.frame_index.specs.Record.{record-frame}
-use Rattle.frame_index.specs.Rollback.{rollback-frames}
+use Rattle.frame_record.specs.Record.{record-frame}
+use Rattle.frame_record.specs.Rollback.{rollback-frames}
 
 -- page, frame and hash cells enough for B blocks
 pub record LongMemory (b : ℕ) (m : Memory) : Type 0 where

@@ -1,8 +1,8 @@
 // The calls that change the index, in numbers: the reply, and the header that the call leaves.
-use frame_index::record;
-use frame_index::record::Record;
-use frame_index::rollback;
-use frame_index::rollback::Rollback;
+use frame_record::record;
+use frame_record::record::Record;
+use frame_record::rollback;
+use frame_record::rollback::Rollback;
 use wal_types::Header;
 ghost use mathlib.Core.Path.{_≡_};
 ghost use mathlib.Core.Bool.{not};

@@ -15,15 +15,15 @@ use Rattle.wal_types.specs.Memory.{Memory, Process, with-header, no-mark, slot-
 use Rattle.wal_types.specs.Call.{Pair, pair, Answer, refused, ok, value, stored, kept, frame-found, listed, slot-taken, Done, done, after}
 use Rattle.bitmap.specs.Bit.{clear-bit}
 use Rattle.header.specs.Publish.{publish-commit}
-use Rattle.frame_index.specs.declared.record.Place.the-variants.{AtEnd}
+use Rattle.frame_record.specs.declared.record.Place.the-variants.{AtEnd}
 use Rattle.frame_index.specs.declared.find.Watermark.the-variants.{NoWatermark}
 use Rattle.frame_index.specs.declared.find.Lookup.the-variants.{Frame, NoFrame}
 use Rattle.hash_block.specs.Block.{built}
 use Rattle.frame_index.specs.Index.{index-refusal, block-pages-of, with-block, index-in}
-use Rattle.frame_index.specs.Record.{started, placed, out-of-order, record-frame}
-use Rattle.frame_index.specs.Rollback.{kept-of, kept-len, rollback-frames}
+use Rattle.frame_record.specs.Record.{started, placed, out-of-order, record-frame}
+use Rattle.frame_record.specs.Rollback.{kept-of, kept-len, rollback-frames}
 use Rattle.frame_index.specs.Find.{lookup-answer, find-frame}
-use Rattle.frame_index.proofs.RolledBack.{rollback-odd}
+use Rattle.frame_record.proofs.RolledBack.{rollback-odd}
 use Rattle.frame_list.specs.Latest.{listed-entries, pairs-of, iter-latest-frames}
 use Rattle.readers.specs.Slots.{slots-in, locals-in, byte-above, in-registry, empty-slots}
 use Rattle.readers.specs.Register.{lowest-slot, register-reader}

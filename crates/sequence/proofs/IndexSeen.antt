@@ -9,10 +9,10 @@ use lib.Dec.{eqb}
 use borrow.Author.Tests.{ne-eqb}
 use Rattle.wal_types.specs.Memory.{Memory, Process}
 use Rattle.wal_types.specs.Call.{Pair, Answer, refused, ok, flag, value, stored, dropped, kept, frame-found, none, listed, slot-taken, Done, after}
-use Rattle.frame_index.specs.Record.{resets, record-frame}
-use Rattle.frame_index.specs.Rollback.{rollback-frames}
-use Rattle.frame_index.proofs.Recorded.{record-refused}
-use Rattle.frame_index.proofs.RolledBack.{rollback-refused}
+use Rattle.frame_record.specs.Record.{resets, record-frame}
+use Rattle.frame_record.specs.Rollback.{rollback-frames}
+use Rattle.frame_record.proofs.Recorded.{record-refused}
+use Rattle.frame_record.proofs.RolledBack.{rollback-refused}
 use Rattle.grown_index.specs.Entries.{entries, up-to}
 use Rattle.grown_index.specs.Grown.{Grown, SameIndex}
 use Rattle.grown_index.specs.Calls.{RollbackLeaves}

@@ -15,11 +15,11 @@ use Rattle.wal_types.specs.Call.{Pair, pair, Answer, refused, ok, flag, value, 
 use Rattle.header.specs.Publish.{publish-commit}
 use Rattle.header.specs.Publish.{next as next-count}
 use Rattle.frame_index.specs.Index.{index-refusal}
-use Rattle.frame_index.specs.Record.{record-frame}
-use Rattle.frame_index.specs.Rollback.{rollback-frames}
+use Rattle.frame_record.specs.Record.{record-frame}
+use Rattle.frame_record.specs.Rollback.{rollback-frames}
 use Rattle.frame_index.proofs.Settings.{passed-settings, passed-long}
-use Rattle.frame_index.proofs.Recorded.{record-refused}
-use Rattle.frame_index.proofs.RolledBack.{rollback-refused}
+use Rattle.frame_record.proofs.Recorded.{record-refused}
+use Rattle.frame_record.proofs.RolledBack.{rollback-refused}
 use Rattle.grown_index.specs.Entries.{entries, entries-found, taken-off}
 use Rattle.grown_index.specs.Grown.{Grown, SameIndex}
 use Rattle.grown_index.specs.Calls.{RecordLeaves, RollbackLeaves, SameReaders}

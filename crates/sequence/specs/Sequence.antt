@@ -11,8 +11,8 @@ use Rattle.header.specs.declared.locks.Lock.{Lock}
 use Rattle.header.specs.Publish.{publish-commit, publish-backfill, bump-checkpoint-seq, bump-checkpoint-epoch}
 use Rattle.header.specs.Locks.{try-acquire, release}
 use Rattle.frame_index.specs.declared.find.Watermark.{Watermark}
-use Rattle.frame_index.specs.Record.{record-frame}
-use Rattle.frame_index.specs.Rollback.{rollback-frames}
+use Rattle.frame_record.specs.Record.{record-frame}
+use Rattle.frame_record.specs.Rollback.{rollback-frames}
 use Rattle.frame_index.specs.Find.{find-frame}
 use Rattle.frame_list.specs.Latest.{iter-latest-frames}
 use Rattle.readers.specs.Register.{register-reader}
