@@ -18,7 +18,8 @@ use Rattle.frame_index.specs.Find.{visible}
 use Rattle.frame_index.proofs.Settings.{good-settings, long-enough}
 use Rattle.frame_list.specs.declared.List.{List as ListAnswer}
 use Rattle.frame_list.specs.declared.List.the-variants.{Pairs, Refused}
-use Rattle.frame_list.specs.Latest.{latest, in-bounds, iter-latest-frames}
+use Rattle.page_choice.specs.Chosen.{in-bounds}
+use Rattle.frame_list.specs.Latest.{latest, iter-latest-frames}
 use Rattle.frame_list.specs.Result.{IsListed, IsRefused, Lists}
 use Rattle.frame_list.specs.Written.{Written, TooMany, Writes}
 

@@ -8,7 +8,9 @@ use Rattle.hash_block.specs.Home.{home, next-cell}
 use Rattle.hash_block.specs.Block.{cleared, empty-from, empty-cell, inserted, built}
 use Rattle.frame_index.specs.Index.{block-cells-of}
 use Rattle.frame_index.specs.Find.{visible-from, visible}
-use Rattle.frame_list.specs.Latest.{has-cell, named, put-entry, latest, in-bounds}
+use Rattle.frame_gather.specs.Named.{has-cell, named}
+use Rattle.page_choice.specs.Chosen.{in-bounds}
+use Rattle.frame_list.specs.Latest.{put-entry, latest}
 
 -- the index's pages, frames and hash cells
 unfoldable pub three-pages : List ℕ

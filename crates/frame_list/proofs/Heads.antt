@@ -4,10 +4,13 @@ use mathlib.Core.List.{List, [], _∷_, _++_}
 use Prim.Native.Nat.{ℕ, zero, suc, _+_, _^_, _<_, _≤_}
 use native.Mathlib.Omega.{arith}
 use lib.ListN.{length, getD}
-use borrow.Author.Tests.{eq-eqb, ne-eqb}
 use Rattle.page_sort.specs.Sorted.{having, by-key, by-page, page-of}
-use Rattle.page_sort.proofs.Keys.{by-eqb, having-nil, having-same, having-other, having-append, by-key-none, by-key-next}
-use Rattle.frame_list.specs.Gathered.{head-of, heads, firsts-after, firsts}
+use Rattle.page_sort.proofs.Keys.{by-eqb, having-nil, having-same, having-other, by-key-none, by-key-next}
+use Rattle.frame_gather.specs.Gathered.{head-of}
+use Rattle.frame_gather.proofs.Gathered.{head-nil, head-same, head-other}
+use Rattle.page_choice.specs.Chosen.{firsts-after, firsts}
+use Rattle.page_choice.proofs.Chosen.{firsts-nil, firsts-skip, firsts-take}
+use Rattle.frame_list.specs.Heads.{heads}
 
 -- every entry's page is below n
 pub data Below (pages : List ℕ) (n : ℕ) : List ℕ → Type 0 where
@@ -15,38 +18,6 @@ pub data Below (pages : List ℕ) (n : ℕ) : List ℕ → Type 0 where
   more-below : (e : ℕ) (l : List ℕ) → getD pages e 0 < n → Below pages n l → Below pages n (e ∷ l)
 
 module _ (pages : List ℕ) where
-  pub head-nil : (page : ℕ) → head-of pages page [] ≡ []
-  unfolding head-of
-  head-nil page = rw (having-nil (page-of pages) page)
-
-  pub head-same : (page e : ℕ) (l : List ℕ) → getD pages e 0 ≡ page → head-of pages page (e ∷ l) ≡ e ∷ []
-  unfolding head-of
-  head-same page e l p = rw (having-same (page-of pages) page e l p)
-
-  pub head-other : (page e : ℕ) (l : List ℕ) → (getD pages e 0 ≡ page → ⊥) → head-of pages page (e ∷ l) ≡ head-of pages page l
-  unfolding head-of
-  head-other page e l p = rw (having-other (page-of pages) page e l p)
-
-  -- where the page has an entry, what comes behind does not matter
-  head-there : (page : ℕ) (l : List ℕ) (j : ℕ) → j < length l → getD pages (getD l j 0) 0 ≡ page → (a b : List ℕ) → head-of pages page (l ++ a) ≡ head-of pages page (l ++ b)
-  head-there page [] j r e a b = absurd (omega arith)
-  head-there page (t ∷ l) zero r e a b = head-same page t (l ++ a) e ∙ sym (head-same page t (l ++ b) e)
-  head-there page (t ∷ l) (suc j) r e a b =
-      by-eqb _ (getD pages t 0) page
-      (λ p. head-same page t (l ++ a) p ∙ sym (head-same page t (l ++ b) p))
-      (λ p. head-other page t (l ++ a) p ∙ head-there page l j (omega arith) e a b ∙ sym (head-other page t (l ++ b) p))
-
-  -- an entry of another page does not matter
-  head-without : (page : ℕ) (l : List ℕ) (n : ℕ) (d : List ℕ) → (getD pages n 0 ≡ page → ⊥) → head-of pages page (l ++ d) ≡ head-of pages page (l ++ (n ∷ d))
-  unfolding head-of
-  head-without page l n d e =
-      rw (having-append (page-of pages) page l d, having-append (page-of pages) page l (n ∷ d), having-other (page-of pages) page n d e)
-
-  -- an entry behind one of its page may be left out
-  pub head-skip : (page : ℕ) (l : List ℕ) (n : ℕ) (d : List ℕ) (j : ℕ) → j < length l → getD pages (getD l j 0) 0 ≡ getD pages n 0 → head-of pages page (l ++ d) ≡ head-of pages page (l ++ (n ∷ d))
-  head-skip page l n d j r e =
-      by-eqb _ (getD pages n 0) page (λ p. head-there page l j r (e ∙ p) d (n ∷ d)) (head-without page l n d)
-
   pub heads-none : (l : List ℕ) → heads pages 0 l ≡ []
   unfolding heads
   heads-none l = refl
@@ -57,7 +28,7 @@ module _ (pages : List ℕ) where
 
   pub heads-nil : (n : ℕ) → heads pages n [] ≡ []
   heads-nil zero = heads-none []
-  heads-nil (suc n) = heads-next n [] ∙ rw (heads-nil n, head-nil n)
+  heads-nil (suc n) = heads-next n [] ∙ rw (heads-nil n, head-nil pages n)
 
   -- lists with the same first entries
   pub heads-agree : (n : ℕ) (a b : List ℕ) → ((page : ℕ) → head-of pages page a ≡ head-of pages page b) → heads pages n a ≡ heads pages n b
@@ -69,7 +40,7 @@ module _ (pages : List ℕ) where
   heads-beyond zero e l b = heads-none (e ∷ l) ∙ sym (heads-none l)
   heads-beyond (suc n) e l b =
       rw (heads-next n (e ∷ l), heads-next n l)
-      (ap₂ (λ (x y : List ℕ). x ++ y) (heads-beyond n e l (omega arith)) (head-other n e l (λ p. absurd (omega arith))))
+      (ap₂ (λ (x y : List ℕ). x ++ y) (heads-beyond n e l (omega arith)) (head-other pages n e l (λ p. absurd (omega arith))))
 
   below-weaken : {l : List ℕ} (n m : ℕ) → n ≤ m → Below pages n l → Below pages m l
   below-weaken n m b none-below = none-below
@@ -92,70 +63,49 @@ module _ (pages : List ℕ) where
       rw (by-key-next (page-of pages) n l) (below-append (suc n) (below-weaken n (suc n) (omega arith) (below-by-key n l)) (below-having n l))
 
   below-head : (v : ℕ) (l : List ℕ) → Below pages (suc v) (head-of pages v l)
-  below-head v [] = rw (head-nil v) none-below
+  below-head v [] = rw (head-nil pages v) none-below
   below-head v (e ∷ l) =
       by-eqb _ (getD pages e 0) v
-      (λ p. rw (head-same v e l p) (more-below e [] (omega arith) none-below))
-      (λ p. rw (head-other v e l p) (below-head v l))
+      (λ p. rw (head-same pages v e l p) (more-below e [] (omega arith) none-below))
+      (λ p. rw (head-other pages v e l p) (below-head v l))
 
   pub below-heads : (n : ℕ) (l : List ℕ) → Below pages n (heads pages n l)
   below-heads zero l = rw (heads-none l) none-below
   below-heads (suc n) l = rw (heads-next n l) (below-append (suc n) (below-weaken n (suc n) (omega arith) (below-heads n l)) (below-head n l))
 
   -- runs of one page
-  pub firsts-nil : (q : ℕ) → firsts-after pages q [] ≡ []
-  unfolding firsts-after
-  firsts-nil q = refl
-
-  pub firsts-skip : (q e : ℕ) (l : List ℕ) → getD pages e 0 ≡ q → firsts-after pages q (e ∷ l) ≡ firsts-after pages q l
-  unfolding firsts-after
-  firsts-skip q e l p = rw (eq-eqb _ _ p)
-
-  pub firsts-take : (q e : ℕ) (l : List ℕ) → (getD pages e 0 ≡ q → ⊥) → firsts-after pages q (e ∷ l) ≡ e ∷ firsts-after pages (getD pages e 0) l
-  unfolding firsts-after
-  firsts-take q e l p = rw (ne-eqb _ _ p)
-
-  pub firsts-of-none : firsts pages [] ≡ []
-  unfolding firsts
-  firsts-of-none = refl
-
-  -- any other page will do before the first entry
-  pub firsts-start : (q e : ℕ) (l : List ℕ) → (getD pages e 0 ≡ q → ⊥) → firsts-after pages q (e ∷ l) ≡ firsts pages (e ∷ l)
-  unfolding firsts
-  firsts-start q e l p = firsts-take q e l p
-
   firsts-one : (v : ℕ) (l : List ℕ) → firsts-after pages v (having (page-of pages) v l) ≡ []
-  firsts-one v [] = rw (having-nil (page-of pages) v) (firsts-nil v)
+  firsts-one v [] = rw (having-nil (page-of pages) v) (firsts-nil pages v)
   firsts-one v (e ∷ l) =
       by-eqb _ (getD pages e 0) v
-      (λ p. rw (having-same (page-of pages) v e l p) (firsts-skip v e (having (page-of pages) v l) p ∙ firsts-one v l))
+      (λ p. rw (having-same (page-of pages) v e l p) (firsts-skip pages v e (having (page-of pages) v l) p ∙ firsts-one v l))
       (λ p. rw (having-other (page-of pages) v e l p) (firsts-one v l))
 
   firsts-having : (q v : ℕ) → (q ≡ v → ⊥) → (l : List ℕ) → firsts-after pages q (having (page-of pages) v l) ≡ head-of pages v l
-  firsts-having q v n [] = rw (having-nil (page-of pages) v, head-nil v) (firsts-nil q)
+  firsts-having q v n [] = rw (having-nil (page-of pages) v, head-nil pages v) (firsts-nil pages q)
   firsts-having q v n (e ∷ l) =
       by-eqb _ (getD pages e 0) v
-      (λ p. rw (having-same (page-of pages) v e l p, head-same v e l p, firsts-take q e (having (page-of pages) v l) (λ r. n (sym r ∙ p)))
+      (λ p. rw (having-same (page-of pages) v e l p, head-same pages v e l p, firsts-take pages q e (having (page-of pages) v l) (λ r. n (sym r ∙ p)))
       (ap (λ (x : List ℕ). e ∷ x) (ap (λ (w : ℕ). firsts-after pages w (having (page-of pages) v l)) p ∙ firsts-one v l)))
-      (λ p. rw (having-other (page-of pages) v e l p, head-other v e l p) (firsts-having q v n l))
+      (λ p. rw (having-other (page-of pages) v e l p, head-other pages v e l p) (firsts-having q v n l))
 
   firsts-append : {a : List ℕ} (q v : ℕ) (l : List ℕ) → Below pages v a → (q ≡ v → ⊥) → firsts-after pages q (a ++ having (page-of pages) v l) ≡ firsts-after pages q a ++ head-of pages v l
-  firsts-append q v l none-below n = firsts-having q v n l ∙ rw (firsts-nil q)
+  firsts-append q v l none-below n = firsts-having q v n l ∙ rw (firsts-nil pages q)
   firsts-append q v l (more-below e r b s) n =
       by-eqb _ (getD pages e 0) q
-      (λ p. rw (firsts-skip q e (r ++ having (page-of pages) v l) p, firsts-skip q e r p) (firsts-append q v l s n))
-      (λ p. rw (firsts-take q e (r ++ having (page-of pages) v l) p, firsts-take q e r p) (ap (λ (x : List ℕ). e ∷ x) (firsts-append (getD pages e 0) v l s (λ t. absurd (omega arith)))))
+      (λ p. rw (firsts-skip pages q e (r ++ having (page-of pages) v l) p, firsts-skip pages q e r p) (firsts-append q v l s n))
+      (λ p. rw (firsts-take pages q e (r ++ having (page-of pages) v l) p, firsts-take pages q e r p) (ap (λ (x : List ℕ). e ∷ x) (firsts-append (getD pages e 0) v l s (λ t. absurd (omega arith)))))
 
   firsts-by-key : (q n : ℕ) (l : List ℕ) → n ≤ q → firsts-after pages q (by-key (page-of pages) n l) ≡ heads pages n l
-  firsts-by-key q zero l b = rw (by-key-none (page-of pages) l, heads-none l) (firsts-nil q)
+  firsts-by-key q zero l b = rw (by-key-none (page-of pages) l, heads-none l) (firsts-nil pages q)
   firsts-by-key q (suc n) l b =
       rw (by-key-next (page-of pages) n l, heads-next n l)
       (firsts-append q n l (below-by-key n l) (λ e. absurd (omega arith)) ∙ ap (λ (x : List ℕ). x ++ head-of pages n l) (firsts-by-key q n l (omega arith)))
 
   firsts-any : (q : ℕ) → ((e : ℕ) → getD pages e 0 < q) → (l : List ℕ) → firsts pages l ≡ firsts-after pages q l
   unfolding firsts
-  firsts-any q small [] = sym (firsts-nil q)
-  firsts-any q small (e ∷ l) = sym (firsts-take q e l (λ p. let b = small e in absurd (omega arith)))
+  firsts-any q small [] = sym (firsts-nil pages q)
+  firsts-any q small (e ∷ l) = sym (firsts-take pages q e l (λ p. let b = small e in absurd (omega arith)))
 
   -- the first of each run of the sorted entries is the first of each page
   pub firsts-by-page : ((e : ℕ) → getD pages e 0 < 2 ^ 64) → (l : List ℕ) → firsts pages (by-page pages l) ≡ heads pages (2 ^ 64) l

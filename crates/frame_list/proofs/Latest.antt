@@ -7,8 +7,10 @@ use native.Mathlib.Decide.{decLe}
 use native.Mathlib.Omega.{arith}
 use lib.ListN.{length, getD}
 use Rattle.page_sort.proofs.Keys.{by-eqb}
-use Rattle.frame_list.specs.Latest.{named, put-entry, latest, in-bounds}
-use Rattle.frame_list.proofs.Turns.{bounds-next, bounds-nil, bounds-in, bounds-low, bounds-high}
+use Rattle.frame_gather.specs.Named.{named}
+use Rattle.page_choice.specs.Chosen.{in-bounds}
+use Rattle.page_choice.proofs.Chosen.{bounds-next, bounds-nil, bounds-in, bounds-low, bounds-high}
+use Rattle.frame_list.specs.Latest.{put-entry, latest}
 use Rattle.frame_list.proofs.Put.{by-order, put-last, put-before, put-over, put-behind}
 
 -- an entry is in a list

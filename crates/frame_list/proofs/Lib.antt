@@ -1,8 +1,6 @@
--- Laws of the list: marks, the first of each page, the latest entries, and the pairs.
-pub mod Marks
+-- Laws of the list: the first of each page, the latest entries, and the answers.
 pub mod Heads
 pub mod Put
-pub mod Turns
 pub mod Answers
 pub mod Latest
 pub mod Cases

@@ -2,15 +2,20 @@
 use mathlib.Core.Path.{_≡_, refl, sym, ap, _∙_}
 use mathlib.Core.Bool.{Bool, true, false, cond}
 use mathlib.Core.List.{List, [], _∷_, _++_}
-use Prim.Native.Nat.{ℕ, zero, suc, _-_, _<_}
+use Prim.Native.Nat.{ℕ, zero, suc, _^_, _<_}
 use native.Mathlib.Decide.{decLt}
 use native.Mathlib.Omega.{arith}
 use lib.ListN.{getD}
 use borrow.Author.Tests.{eq-eqb, ne-eqb, lt-ltb, le-ltb}
 use Rattle.page_sort.proofs.Keys.{by-eqb}
-use Rattle.frame_list.specs.Latest.{named, put-entry, latest}
-use Rattle.frame_list.specs.Gathered.{down, head-of, heads}
-use Rattle.frame_list.proofs.Heads.{Below, none-below, more-below, head-nil, head-same, head-other, heads-next, heads-nil, heads-beyond, below-heads}
+use Rattle.page_sort.specs.Sorted.{by-page}
+use Rattle.frame_gather.specs.Named.{named}
+use Rattle.frame_gather.specs.Gathered.{down, head-of}
+use Rattle.frame_gather.proofs.Gathered.{head-nil, head-same, head-other}
+use Rattle.page_choice.specs.Chosen.{firsts}
+use Rattle.frame_list.specs.Latest.{put-entry, latest}
+use Rattle.frame_list.specs.Heads.{heads}
+use Rattle.frame_list.proofs.Heads.{Below, none-below, more-below, heads-next, heads-nil, heads-agree, heads-beyond, below-heads, firsts-by-page}
 
 -- what holds for a below b, for a equal to b, and for a above b
 pub by-order : (P : Type 0) (a b : ℕ) → (a < b → P) → (a ≡ b → P) → (b < a → P) → P
@@ -77,16 +82,6 @@ module _ (pages : List ℕ) (n : ℕ) where
       (λ e. rw (heads-next pages m l, heads-next pages m (n ∷ l), head-other pages m n l e)
       (put-low (heads pages m l) m l (omega arith) ∙ ap (λ (x : List ℕ). x ++ head-of pages m l) (put-heads m l (omega arith))))
 
--- the named entries from the last down, one at a time
-module _ (hash : List ℕ) (n : ℕ) (some : 0 < n) where
-  pub down-named : named hash (n - 1) ≡ true → down hash n ≡ (n - 1) ∷ down hash (n - 1)
-  unfolding down
-  down-named e = let s : n ≡ suc (n - 1) = omega arith in ap (down hash) s ∙ rw e
-
-  pub down-unnamed : named hash (n - 1) ≡ false → down hash n ≡ down hash (n - 1)
-  unfolding down
-  down-unnamed e = let s : n ≡ suc (n - 1) = omega arith in ap (down hash) s ∙ rw e
-
 -- the definition's list, by the first of each page
 pub latest-heads : (pages hash : List ℕ) (m : ℕ) → ((e : ℕ) → getD pages e 0 < m) → (v : ℕ) → latest pages hash v ≡ heads pages m (down hash v)
 unfolding latest down
@@ -96,3 +91,8 @@ latest-heads pages hash m small (suc v) = go (named hash v) (latest-heads pages 
     go : (t : Bool) → latest pages hash v ≡ heads pages m (down hash v) → cond t (put-entry pages v (latest pages hash v)) (latest pages hash v) ≡ heads pages m (cond t (v ∷ down hash v) (down hash v))
     go true h = ap (put-entry pages v) h ∙ put-heads pages v m (down hash v) (small v)
     go false h = h
+
+-- of the sorted gathered entries, these are the latest
+pub latest-chosen : (pages hash l : List ℕ) (v : ℕ) → ((e : ℕ) → getD pages e 0 < 2 ^ 64) → ((page : ℕ) → head-of pages page l ≡ head-of pages page (down hash v)) → firsts pages (by-page pages l) ≡ latest pages hash v
+latest-chosen pages hash l v small same =
+    firsts-by-page pages small l ∙ heads-agree pages (2 ^ 64) l (down hash v) same ∙ sym (latest-heads pages hash (2 ^ 64) small v)

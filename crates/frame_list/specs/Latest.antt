@@ -1,24 +1,16 @@
 -- iter_latest_frames (document 01, "iter_latest_frames"). Assumes nothing.
-use mathlib.Core.Bool.{Bool, false, _||_, cond}
+use mathlib.Core.Bool.{_||_, cond}
 use mathlib.Core.List.{List, [], _∷_, _++_, map}
-use Prim.Native.Nat.{ℕ, zero, suc, _+_}
+use Prim.Native.Nat.{ℕ, zero, suc}
 use lib.Dec.{eqb, ltb}
 use lib.ListN.{length, getD}
-use Rattle.wal_types.specs.Settings.{within}
 use Rattle.wal_types.specs.Memory.{Memory}
 use Rattle.wal_types.specs.Refusal.{Test, _if_, short-list}
 use Rattle.wal_types.specs.Call.{Pair, pair, Call, listed, does, unless}
-use Rattle.frame_index.specs.Index.{index-tests, block-of, place-of, block-cells-of}
+use Rattle.frame_index.specs.Index.{index-tests}
 use Rattle.frame_index.specs.Find.{visible}
-
--- some cell holds this value
-unfoldable pub has-cell : List ℕ → ℕ → Bool
-has-cell [] v = false
-has-cell (c ∷ rest) v = eqb c v || has-cell rest v
-
--- a cell of its block's hash names entry n
-unfoldable pub named : List ℕ → ℕ → Bool
-named hash n = has-cell (block-cells-of (block-of n) hash) (place-of n + 1)
+use Rattle.frame_gather.specs.Named.{named}
+use Rattle.page_choice.specs.Chosen.{in-bounds}
 
 -- entry n put among entries of rising pages, in the place of the one of its own page
 unfoldable pub put-entry : List ℕ → ℕ → List ℕ → List ℕ
@@ -31,12 +23,6 @@ put-entry pages n (t ∷ rest) =
 unfoldable pub latest : List ℕ → List ℕ → ℕ → List ℕ
 latest pages hash zero = []
 latest pages hash (suc n) = cond (named hash n) (put-entry pages n (latest pages hash n)) (latest pages hash n)
-
--- those of the entries whose frame is from low to high
-unfoldable pub in-bounds : List ℕ → ℕ → ℕ → List ℕ → List ℕ
-in-bounds frames low high [] = []
-in-bounds frames low high (n ∷ rest) =
-    cond (within low high (getD frames n 0)) (n ∷ in-bounds frames low high rest) (in-bounds frames low high rest)
 
 -- the entries that are listed: each page's latest with frame ≤ max, if its frame is ≥ min
 abbrev pub listed-entries : ℕ → ℕ → Memory → List ℕ

@@ -1,23 +1,50 @@
 // iter_latest_frames: each page's latest entry with a frame of at most max, listed if its frame is at least min, by rising
 // page. The entries that the hash names are gathered from the last down, sorted by page, and the first of each page is taken.
 // All of it is counted before the first output cell is written.
+use frame_gather::gather;
+use page_choice::choose;
 use wal_types::Header;
+ghost use mathlib.Core.Path.{_≡_};
 ghost use Prim.Native.Nat.{_+_, _*_, _/_, _≤_};
-ghost use lib.ListN.{length};
+ghost use lib.ListN.{length, take};
 ghost use Rattle.wal_types.specs.Memory.{Memory, Process};
-ghost use Rattle.frame_list.specs.Latest.{latest, in-bounds, iter-latest-frames};
+ghost use Rattle.page_choice.specs.Chosen.{in-bounds};
+ghost use Rattle.frame_list.specs.Latest.{latest, iter-latest-frames};
 ghost use Rattle.frame_index.specs.Index.{index-in};
 ghost use Rattle.frame_list.specs.Result.{Lists};
 ghost use Rattle.frame_list.specs.Written.{Writes};
-
-mod choose;
-mod gather;
 
 pub enum List {
     // As many pairs, in the first output cells.
     Pairs(usize),
     // Turned away, with the refusal's number.
     Refused(u32),
+}
+
+// The entries to be listed: they come into the spare.
+fn latest_entries(
+    pages: &[u64],
+    frames: &[u64],
+    hash: &[u16],
+    visible: usize,
+    min_frame: u64,
+    max_frame: u64,
+    list: &mut [u16],
+    spare: &mut [u16],
+) -> usize
+    requires { ⌜ ((visible ≤ 65536) × (8192 * ((visible + 4095) / 4096) ≤ length (now hash))) × ((visible ≤ length (now list)) × (visible ≤ length (now spare))) ⌝ }
+    ensures { λ r. ⌜ (r ≤ visible) × (take r (now (spare .exit)) ≡ in-bounds (now (frames .entry)) «min_frame» «max_frame» (latest (now (pages .entry)) (now (hash .entry)) visible)) ⌝ }
+{
+    let gathered = gather::gather(pages, hash, visible, list);
+    page_sort::sort_by_page(pages, list, spare, gathered);
+    choose::choose(
+        pages,
+        frames,
+        &list[..gathered],
+        min_frame,
+        max_frame,
+        spare,
+    )
 }
 
 // The list over the visible entries, with room to work for all of them.
@@ -36,7 +63,7 @@ fn list_in(
     requires { ⌜ ((visible ≤ 65536) × (8192 * ((visible + 4095) / 4096) ≤ length (now hash))) × ((visible ≤ length (now list)) × (visible ≤ length (now spare))) ⌝ }
     ensures { λ r. ⌜ Writes (now (pages .entry)) (now (frames .entry)) (in-bounds (now (frames .entry)) «min_frame» «max_frame» (latest (now (pages .entry)) (now (hash .entry)) visible)) r (now («out_pages» .entry)) (now («out_frames» .entry)) (now («out_pages» .exit)) (now («out_frames» .exit)) ⌝ }
 {
-    let count = choose::latest_entries(
+    let count = latest_entries(
         pages,
         frames,
         hash,

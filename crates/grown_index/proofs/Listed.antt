@@ -17,7 +17,9 @@ use Rattle.hash_block.proofs.Used.{built-named}
 use Rattle.frame_index.specs.declared.find.Lookup.the-variants.{Frame}
 use Rattle.frame_index.specs.Index.{block-of, block-pages-of}
 use Rattle.frame_index.specs.Find.{visible}
-use Rattle.frame_list.specs.Latest.{has-cell, named, latest, in-bounds, listed-entries, pairs-of}
+use Rattle.frame_gather.specs.Named.{has-cell, named}
+use Rattle.page_choice.specs.Chosen.{in-bounds}
+use Rattle.frame_list.specs.Latest.{latest, listed-entries, pairs-of}
 use Rattle.frame_list.proofs.Latest.{In, here, there, Rises, rises-none, rises-more, HasPage, in-nil, in-cons, latest-rises, latest-below, latest-last, latest-has}
 use Rattle.grown_index.specs.Entries.{entries, greatest}
 use Rattle.grown_index.specs.Grown.{BlocksBuilt, Grown}

@@ -1,0 +1,2 @@
+-- The entries that are chosen of a list.
+pub mod Chosen
