@@ -3,5 +3,4 @@ pub mod Entered
 pub mod Recorded
 pub mod Placed
 pub mod Planned
-pub mod Kept
 pub mod RolledBack

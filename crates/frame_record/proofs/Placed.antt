@@ -8,10 +8,10 @@ use borrow.Author.Tests.{leb-true, leb-false}
 use Rattle.wal_types.specs.declared.Header.{Header}
 use Rattle.wal_types.specs.Settings.{entries-for}
 use Rattle.wal_types.specs.Store.{frame-index-len, frame-index-overflowed, frame-index-blocks, header-with}
-use Rattle.frame_record.specs.declared.record.Place.{Place}
-use Rattle.frame_record.specs.declared.record.Place.the-variants.{AtEnd, NoPlace}
+use Rattle.index_end.specs.declared.place.Place.{Place}
+use Rattle.index_end.specs.declared.place.Place.the-variants.{AtEnd, NoPlace}
 use Rattle.frame_index.specs.Index.{HasRoom}
-use Rattle.frame_record.specs.Record.{resets, started, blocks-full, drops, placed}
+use Rattle.index_end.specs.Place.{resets, started, blocks-full, drops, placed}
 use Rattle.frame_index.proofs.Settings.{GoodSettings, LongEnough}
 
 module _ (frame : ℕ) (h : Header) where

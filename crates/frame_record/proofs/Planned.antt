@@ -13,12 +13,13 @@ use Rattle.hash_block.specs.declared.Cell.{Cell}
 use Rattle.hash_block.specs.declared.Cell.the-variants.{Empty, Full}
 use Rattle.hash_block.specs.Block.{empty-cell}
 use Rattle.hash_block.proofs.Empty.{found-below}
-use Rattle.frame_record.specs.declared.record.Place.{Place}
-use Rattle.frame_record.specs.declared.record.Place.the-variants.{AtEnd, NoPlace}
+use Rattle.index_end.specs.declared.place.Place.{Place}
+use Rattle.index_end.specs.declared.place.Place.the-variants.{AtEnd, NoPlace}
 use Rattle.frame_record.specs.declared.record.Plan.{Plan}
 use Rattle.frame_record.specs.declared.record.Plan.the-variants.{First, Next, Dropped, Refused}
 use Rattle.frame_index.specs.Index.{index-refusal, block-of, place-of, block-cells-of, index-in, HasRoom}
-use Rattle.frame_record.specs.Record.{started, placed, out-of-order, record-frame}
+use Rattle.index_end.specs.Place.{started, placed, out-of-order}
+use Rattle.frame_record.specs.Record.{record-frame}
 use Rattle.frame_record.specs.Plan.{carried-out, plan-fits, PlannedRecord}
 use Rattle.frame_index.proofs.Settings.{passed-settings, passed-long}
 use Rattle.frame_record.proofs.Placed.{started-blocks, place-room}

@@ -17,10 +17,11 @@ use Rattle.wal_types.proofs.Refusals.{call-accepted}
 use Rattle.hash_block.specs.declared.Cell.{Cell}
 use Rattle.hash_block.specs.declared.Cell.the-variants.{Empty, Full}
 use Rattle.hash_block.specs.Block.{cleared, empty-cell, inserted}
-use Rattle.frame_record.specs.declared.record.Place.{Place}
-use Rattle.frame_record.specs.declared.record.Place.the-variants.{AtEnd, NoPlace}
+use Rattle.index_end.specs.declared.place.Place.{Place}
+use Rattle.index_end.specs.declared.place.Place.the-variants.{AtEnd, NoPlace}
 use Rattle.frame_index.specs.Index.{block-of, place-of, block-cells-of, with-block, index-refusal, index-in}
-use Rattle.frame_record.specs.Record.{resets, started, blocks-full, drops, placed, out-of-order, is-full, no-cell, reset-index, grow-index, enter, drop-stores, enter-stores, records, record-frame}
+use Rattle.index_end.specs.Place.{resets, started, blocks-full, drops, placed, out-of-order}
+use Rattle.frame_record.specs.Record.{is-full, no-cell, reset-index, grow-index, enter, drop-stores, enter-stores, records, record-frame}
 use Rattle.frame_index.proofs.Refused.{index-refused, index-passed}
 use Rattle.frame_record.proofs.Entered.{enter-first, enter-next}
 

@@ -20,7 +20,8 @@ use Rattle.hash_block.proofs.Empty.{inserted-at}
 use Rattle.hash_block.proofs.Built.{built-none, built-next, built-length}
 use Rattle.hash_block.proofs.Used.{has-room}
 use Rattle.frame_index.specs.Index.{block-of, place-of, block-cells-of, block-pages-of, with-block, clear-block, insert-entry, insert-entries, index-refusal, index-in}
-use Rattle.frame_record.specs.Rollback.{kept-of, kept-len, rebuild-last, rollback-stores, rollback-frames}
+use Rattle.index_end.specs.Kept.{kept-of}
+use Rattle.frame_record.specs.Rollback.{kept-len, rebuild-last, rollback-stores, rollback-frames}
 use Rattle.frame_index.proofs.Blocks.{block-page, block-of-with, length-with, with-with}
 use Rattle.frame_index.proofs.Refused.{index-refused, index-passed}
 use Rattle.frame_record.proofs.Entered.{clear-applied, insert-applied}

@@ -1,13 +1,11 @@
 -- record_frame (document 01, "record_frame"). Assumes nothing.
-use mathlib.Core.Bool.{Bool, true, false, not, _&&_, _||_, cond}
+use mathlib.Core.Bool.{Bool, true, false, not, _&&_, cond}
 use mathlib.Core.List.{List, [], _∷_, _++_}
-use Prim.Native.Nat.{ℕ, _+_, _-_}
-use lib.Dec.{eqb, leb, ltb}
-use lib.ListN.{getD}
+use Prim.Native.Nat.{ℕ, _+_}
+use lib.Dec.{eqb}
 use Rattle.wal_types.specs.declared.Header.{Header}
-use Rattle.wal_types.specs.Settings.{entries-for}
 use Rattle.wal_types.specs.Memory.{Memory, Process}
-use Rattle.wal_types.specs.Store.{to-header, frame-index-len, frame-index-overflowed, frame-index-blocks, header-with, to-page, to-frame, Piece, one, when, _then_}
+use Rattle.wal_types.specs.Store.{to-header, frame-index-len, frame-index-overflowed, frame-index-blocks, to-page, to-frame, Piece, one, when, _then_}
 use Rattle.wal_types.specs.Refusal.{Test, _if_, frame-order, hash-full}
 use Rattle.wal_types.specs.Call.{Call, Answer, refused, stored, dropped, does, unless}
 use Rattle.hash_block.specs.declared.Cell.{Cell}
@@ -15,36 +13,8 @@ use Rattle.hash_block.specs.declared.Cell.the-variants.{Empty, Full}
 use Rattle.hash_block.specs.Block.{empty-cell}
 use Rattle.frame_record.specs.declared.record.Record.{Record}
 use Rattle.frame_record.specs.declared.record.Record.the-variants.{Stored, Dropped, Refused}
-use Rattle.frame_record.specs.declared.record.Place.{Place}
-use Rattle.frame_record.specs.declared.record.Place.the-variants.{AtEnd, NoPlace}
 use Rattle.frame_index.specs.Index.{index-tests, block-of, place-of, block-cells-of, clear-block, insert-entry}
-
--- Frame 1 while the published frame is 0 resets the index.
-abbrev pub resets : ℕ → Header → Bool
-resets frame h = eqb frame 1 && eqb (h .«max_frame») 0
-
--- the header that the entry finds: after a reset, length and flag 0
-unfoldable pub started : ℕ → Header → Header
-started frame h = cond (resets frame h) (header-with frame-index-overflowed 0 (header-with frame-index-len 0 h)) h
-
--- the blocks in use are full
-abbrev pub blocks-full : Header → Bool
-blocks-full s = leb (entries-for (s .«frame_index_blocks»)) (s .«frame_index_len»)
-
--- Dropped: length has reached capacity, or the blocks in use are full and may not grow.
-abbrev pub drops : ℕ → ℕ → Bool → Header → Bool
-drops capacity b grow s =
-    leb capacity (s .«frame_index_len») || (blocks-full s && (leb b (s .«frame_index_blocks») || not grow))
-
--- where the entry goes: nowhere, or at the end of the index, after a growth where the blocks are full
-unfoldable pub placed : ℕ → ℕ → Bool → Header → Place
-placed capacity b grow s =
-    cond (drops capacity b grow s) NoPlace
-    (AtEnd (cond (blocks-full s) (header-with frame-index-blocks (s .«frame_index_blocks» + 1) s) s))
-
--- a frame not above the last one of n
-abbrev pub out-of-order : ℕ → ℕ → List ℕ → Bool
-out-of-order frame n frames = ltb 0 n && leb frame (getD frames (n - 1) 0)
+use Rattle.index_end.specs.Place.{resets, started, blocks-full, drops, out-of-order}
 
 abbrev pub is-full : Cell → Bool
 is-full (Empty cell) = false

@@ -11,11 +11,7 @@ use Rattle.wal_types.specs.Call.{Call, Answer, refused, kept, does, unless}
 use Rattle.frame_record.specs.declared.rollback.Rollback.{Rollback}
 use Rattle.frame_record.specs.declared.rollback.Rollback.the-variants.{Kept, Refused}
 use Rattle.frame_index.specs.Index.{index-tests, block-of, place-of, clear-block, insert-entries}
-
--- how many of the first n entries are kept: entries go from the end while the last frame is above the bound
-unfoldable pub kept-of : ℕ → List ℕ → ℕ → ℕ
-kept-of zero frames bound = 0
-kept-of (suc n) frames bound = cond (leb (getD frames n 0) bound) (suc n) (kept-of n frames bound)
+use Rattle.index_end.specs.Kept.{kept-of}
 
 abbrev pub kept-len : ℕ → Memory → ℕ
 kept-len bound m = kept-of (m .header .«frame_index_len») (m .frames) bound

@@ -1,15 +1,15 @@
 // record_frame: an entry more at the end of the index.
 use frame_index::index;
 use hash_block::Cell;
+use index_end::place;
+use index_end::place::Place;
 use wal_types::Header;
 ghost use mathlib.Core.Path.{_≡_};
-ghost use mathlib.Core.Bool.{Bool, true, false};
-ghost use Prim.Native.Nat.{ℕ, _+_, _*_, _/_, _%_, _<_, _≤_};
+ghost use Prim.Native.Nat.{_+_, _/_, _%_, _<_};
 ghost use lib.ListN.{length, set};
 ghost use Rattle.hash_block.specs.Block.{cleared, inserted};
-ghost use Rattle.wal_types.specs.Store.{header-with, frame-index-len, frame-index-overflowed};
 ghost use Rattle.frame_index.specs.Index.{block-cells-of, with-block, HasRoom, IndexCall};
-ghost use Rattle.frame_record.specs.Record.{started, placed, out-of-order, record-frame, record-answer, record-header};
+ghost use Rattle.frame_record.specs.Record.{record-frame, record-answer, record-header};
 ghost use Rattle.frame_record.specs.Plan.{PlannedRecord};
 
 // Stored and Dropped have the header as the call leaves it. Refused changes nothing.
@@ -19,12 +19,6 @@ pub enum Record {
     Refused(u32),
 }
 
-// Where an entry goes: at the end of the index of this header, whose blocks may have grown; or nowhere.
-pub enum Place {
-    AtEnd(Header),
-    NoPlace,
-}
-
 // What a record is to do: write the first entry of a block, or another one in the cell found for it, at the end of the
 // index of this header; leave this header, with the flag set; or be refused.
 pub enum Plan {
@@ -32,73 +26,6 @@ pub enum Plan {
     Next(Header, usize),
     Dropped(Header),
     Refused(u32),
-}
-
-// The header that the entry finds. Frame 1 with nothing published resets the index.
-fn started_header(header: Header, frame_id: u64) -> Header
-    ensures { λ r. ⌜ r ≡ started «frame_id» header ⌝ }
-{
-    if frame_id != 1 {
-        return header;
-    }
-    if header.max_frame != 0 {
-        return header;
-    }
-    let mut next = header;
-    next.frame_index_len = 0;
-    next.frame_index_overflowed = 0;
-    next
-}
-
-// grow is the file's answer to a growth by one block.
-fn place_entry(capacity: u32, max_blocks: u32, header: Header, grow: bool) -> Place
-    requires { ⌜ (header .«frame_index_blocks» ≤ «max_blocks») × («max_blocks» ≤ 16) ⌝ }
-    ensures { λ r. ⌜ r ≡ placed capacity «max_blocks» grow header ⌝ }
-{
-    if capacity <= header.frame_index_len {
-        return Place::NoPlace;
-    }
-    if header.frame_index_len < 4096 * header.frame_index_blocks {
-        return Place::AtEnd(header);
-    }
-    if max_blocks <= header.frame_index_blocks {
-        return Place::NoPlace;
-    }
-    if !grow {
-        return Place::NoPlace;
-    }
-    let mut next = header;
-    next.frame_index_blocks = header.frame_index_blocks + 1;
-    Place::AtEnd(next)
-}
-
-// Whether the frame is not above the last of the entries.
-fn is_out_of_order(frames: &[u64], len: usize, frame_id: u64) -> bool
-    requires { ⌜ len ≤ length (now frames) ⌝ }
-    ensures { λ r. ⌜ r ≡ out-of-order «frame_id» len (now (frames .entry)) ⌝ }
-{
-    if len == 0 {
-        return false;
-    }
-    frame_id <= frames[len - 1]
-}
-
-// The header with an entry more, and with the flag set.
-fn longer(header: Header) -> Header
-    requires { ⌜ header .«frame_index_len» < 65536 ⌝ }
-    ensures { λ r. ⌜ r ≡ header-with frame-index-len (header .«frame_index_len» + 1) header ⌝ }
-{
-    let mut next = header;
-    next.frame_index_len = header.frame_index_len + 1;
-    next
-}
-
-fn overflowed(header: Header) -> Header
-    ensures { λ r. ⌜ r ≡ header-with frame-index-overflowed 1 header ⌝ }
-{
-    let mut next = header;
-    next.frame_index_overflowed = 1;
-    next
 }
 
 // Writes the first entry of a block, whose hash is cleared.
@@ -166,12 +93,12 @@ fn plan_record(
     if refusal != 0 {
         return Plan::Refused(refusal);
     }
-    let start = started_header(header, frame_id);
-    let Place::AtEnd(grown) = place_entry(capacity, max_blocks, start, grow) else {
-        return Plan::Dropped(overflowed(start));
+    let start = place::started_header(header, frame_id);
+    let Place::AtEnd(grown) = place::place_entry(capacity, max_blocks, start, grow) else {
+        return Plan::Dropped(place::overflowed(start));
     };
     let n = grown.frame_index_len as usize;
-    if is_out_of_order(frames, n, frame_id) {
+    if place::is_out_of_order(frames, n, frame_id) {
         return Plan::Refused(3);
     }
     if n % 4096 == 0 {
@@ -219,12 +146,12 @@ pub fn record_frame(
         Plan::First(grown) => {
             let n = grown.frame_index_len as usize;
             enter_first(pages, frames, hash, n, page_id, frame_id);
-            return Record::Stored(longer(grown));
+            return Record::Stored(place::longer(grown));
         }
         Plan::Next(grown, cell) => {
             let n = grown.frame_index_len as usize;
             enter_next(pages, frames, hash, n, cell, page_id, frame_id);
-            return Record::Stored(longer(grown));
+            return Record::Stored(place::longer(grown));
         }
     }
 }

@@ -1,40 +1,14 @@
 // rollback_frames: entries are dropped from the end.
 use frame_index::index;
+use index_end::kept;
 use wal_types::Header;
-ghost use mathlib.Core.Path.{_≡_};
-ghost use Prim.Native.Nat.{ℕ, _*_, _/_, _%_, _<_, _≤_};
-ghost use lib.ListN.{length};
-ghost use Rattle.wal_types.specs.Store.{header-with, frame-index-len};
 ghost use Rattle.frame_index.specs.Index.{IndexCall};
-ghost use Rattle.frame_record.specs.Rollback.{kept-of, rollback-frames, rollback-answer, rollback-header};
+ghost use Rattle.frame_record.specs.Rollback.{rollback-frames, rollback-answer, rollback-header};
 
 // Kept has the header as the call leaves it, with the kept length in it. Refused changes nothing.
 pub enum Rollback {
     Kept(Header),
     Refused(u32),
-}
-
-// How many of the first len entries are kept.
-fn kept_entries(frames: &[u64], len: usize, max_frame: u64) -> usize
-    requires { ⌜ len ≤ length (now frames) ⌝ }
-    ensures { λ r. ⌜ (r ≡ kept-of len (now (frames .entry)) «max_frame») × (r ≤ len) ⌝ }
-{
-    let mut n = len;
-    while 0 < n {
-        if frames[n - 1] <= max_frame {
-            return n;
-        }
-        n -= 1;
-    }
-    0
-}
-
-fn shortened(header: Header, len: u32) -> Header
-    ensures { λ r. ⌜ r ≡ header-with frame-index-len len header ⌝ }
-{
-    let mut next = header;
-    next.frame_index_len = len;
-    next
 }
 
 // Drops the entries from the end whose frame is above max_frame.
@@ -61,11 +35,11 @@ pub fn rollback_frames(
         return Rollback::Refused(refusal);
     }
     let len = header.frame_index_len as usize;
-    let n = kept_entries(frames, len, max_frame);
+    let n = kept::kept_entries(frames, len, max_frame);
     if len <= n {
         return Rollback::Kept(header);
     }
-    let next = shortened(header, n as u32);
+    let next = kept::shortened(header, n as u32);
     let local_index = n % 4096;
     if local_index == 0 {
         return Rollback::Kept(next);

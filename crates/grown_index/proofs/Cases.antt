@@ -16,8 +16,9 @@ use Rattle.wal_types.specs.Store.{frame-index-len, header-with}
 use Rattle.wal_types.specs.Call.{Pair, pair, Answer, stored, frame-found, none, listed, Done, done, after}
 use Rattle.frame_index.specs.declared.find.Watermark.the-variants.{UpTo, NoWatermark}
 use Rattle.frame_index.specs.declared.find.Lookup.the-variants.{Frame, NoFrame}
-use Rattle.frame_record.specs.declared.record.Place.the-variants.{AtEnd}
-use Rattle.frame_record.specs.Record.{started, placed, out-of-order, record-frame}
+use Rattle.index_end.specs.declared.place.Place.the-variants.{AtEnd}
+use Rattle.index_end.specs.Place.{started, placed, out-of-order}
+use Rattle.frame_record.specs.Record.{record-frame}
 use Rattle.frame_index.specs.Find.{lookup-answer, find-frame}
 use Rattle.frame_list.specs.Latest.{listed-entries, pairs-of, iter-latest-frames}
 use Rattle.grown_index.specs.Entries.{entries, greatest}

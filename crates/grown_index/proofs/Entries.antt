@@ -11,7 +11,7 @@ use lib.ListN.{length, getD, set, length-append}
 use lib.Seq.{getD-set-same, getD-set-other}
 use borrow.Author.Tests.{le-leb, lt-leb}
 use Rattle.wal_types.specs.Call.{Pair, pair}
-use Rattle.frame_record.specs.Rollback.{kept-of}
+use Rattle.index_end.specs.Kept.{kept-of}
 use Rattle.grown_index.specs.Entries.{entries-of, taken-off, up-to}
 use Rattle.grown_index.specs.Grown.{FramesRise}
 use Rattle.grown_index.proofs.Lists.{Each, taken-stays, taken-goes, up-to-all, up-to-stays, up-to-goes}

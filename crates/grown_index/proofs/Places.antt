@@ -14,9 +14,9 @@ use Rattle.wal_types.specs.Settings.{entries-for}
 use Rattle.wal_types.specs.Store.{frame-index-len, frame-index-overflowed, frame-index-blocks, header-with}
 use Rattle.hash_block.specs.Block.{cleared, inserted, built}
 use Rattle.hash_block.proofs.Built.{built-none, built-next}
-use Rattle.frame_record.specs.declared.record.Place.the-variants.{AtEnd, NoPlace}
+use Rattle.index_end.specs.declared.place.Place.the-variants.{AtEnd, NoPlace}
 use Rattle.frame_index.specs.Index.{block-of, place-of, block-pages-of}
-use Rattle.frame_record.specs.Record.{resets, started, blocks-full, placed, out-of-order}
+use Rattle.index_end.specs.Place.{resets, started, blocks-full, placed, out-of-order}
 use Rattle.frame_index.proofs.Blocks.{block-page}
 use Rattle.grown_index.specs.Entries.{entries-of}
 use Rattle.grown_index.proofs.Entries.{entries-none}

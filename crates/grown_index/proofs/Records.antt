@@ -19,10 +19,11 @@ use Rattle.hash_block.specs.Block.{empty-cell, inserted, built}
 use Rattle.hash_block.proofs.Empty.{inserted-at}
 use Rattle.hash_block.proofs.Built.{built-length}
 use Rattle.hash_block.proofs.Used.{never-full}
-use Rattle.frame_record.specs.declared.record.Place.{Place}
-use Rattle.frame_record.specs.declared.record.Place.the-variants.{AtEnd, NoPlace}
+use Rattle.index_end.specs.declared.place.Place.{Place}
+use Rattle.index_end.specs.declared.place.Place.the-variants.{AtEnd, NoPlace}
 use Rattle.frame_index.specs.Index.{bad-settings, short-index, index-refusal, block-of, place-of, block-cells-of, block-pages-of, with-block, index-in}
-use Rattle.frame_record.specs.Record.{started, placed, out-of-order, record-frame}
+use Rattle.index_end.specs.Place.{started, placed, out-of-order}
+use Rattle.frame_record.specs.Record.{record-frame}
 use Rattle.frame_index.proofs.Blocks.{length-with}
 use Rattle.frame_record.proofs.Placed.{started-blocks, started-len}
 use Rattle.frame_record.proofs.Recorded.{record-refused, record-dropped, record-out-of-order, record-first, record-next}

@@ -6,7 +6,8 @@ use Prim.Native.Nat.{ℕ, _≤_, min}
 use native.Mathlib.Omega.{arith}
 use Rattle.wal_types.specs.Memory.{Memory, Process}
 use Rattle.wal_types.specs.Call.{Pair, pair, after}
-use Rattle.frame_record.specs.Record.{resets, record-frame}
+use Rattle.index_end.specs.Place.{resets}
+use Rattle.frame_record.specs.Record.{record-frame}
 use Rattle.frame_record.specs.Rollback.{rollback-frames}
 use Rattle.grown_index.specs.Entries.{entries, entries-found, up-to, greatest}
 use Rattle.grown_index.specs.Grown.{Grown}

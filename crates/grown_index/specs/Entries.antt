@@ -9,7 +9,7 @@ use Rattle.wal_types.specs.Memory.{Memory}
 use Rattle.wal_types.specs.Call.{Pair, pair}
 use Rattle.frame_index.specs.declared.find.Lookup.{Lookup}
 use Rattle.frame_index.specs.declared.find.Lookup.the-variants.{Frame, NoFrame}
-use Rattle.frame_record.specs.Record.{resets}
+use Rattle.index_end.specs.Place.{resets}
 
 -- the pairs of the first n entries, in order
 unfoldable pub entries-of : ℕ → List ℕ → List ℕ → List Pair

@@ -15,13 +15,15 @@ use Rattle.wal_types.specs.Memory.{Memory, Process, with-header, no-mark, slot-
 use Rattle.wal_types.specs.Call.{Pair, pair, Answer, refused, ok, value, stored, kept, frame-found, listed, slot-taken, Done, done, after}
 use Rattle.bitmap.specs.Bit.{clear-bit}
 use Rattle.header.specs.Publish.{publish-commit}
-use Rattle.frame_record.specs.declared.record.Place.the-variants.{AtEnd}
+use Rattle.index_end.specs.declared.place.Place.the-variants.{AtEnd}
 use Rattle.frame_index.specs.declared.find.Watermark.the-variants.{NoWatermark}
 use Rattle.frame_index.specs.declared.find.Lookup.the-variants.{Frame, NoFrame}
 use Rattle.hash_block.specs.Block.{built}
 use Rattle.frame_index.specs.Index.{index-refusal, block-pages-of, with-block, index-in}
-use Rattle.frame_record.specs.Record.{started, placed, out-of-order, record-frame}
-use Rattle.frame_record.specs.Rollback.{kept-of, kept-len, rollback-frames}
+use Rattle.index_end.specs.Place.{started, placed, out-of-order}
+use Rattle.index_end.specs.Kept.{kept-of}
+use Rattle.frame_record.specs.Record.{record-frame}
+use Rattle.frame_record.specs.Rollback.{kept-len, rollback-frames}
 use Rattle.frame_index.specs.Find.{lookup-answer, find-frame}
 use Rattle.frame_record.proofs.RolledBack.{rollback-odd}
 use Rattle.frame_list.specs.Latest.{listed-entries, pairs-of, iter-latest-frames}

@@ -9,7 +9,8 @@ use lib.Dec.{eqb}
 use borrow.Author.Tests.{ne-eqb}
 use Rattle.wal_types.specs.Memory.{Memory, Process}
 use Rattle.wal_types.specs.Call.{Pair, Answer, refused, ok, flag, value, stored, dropped, kept, frame-found, none, listed, slot-taken, Done, after}
-use Rattle.frame_record.specs.Record.{resets, record-frame}
+use Rattle.index_end.specs.Place.{resets}
+use Rattle.frame_record.specs.Record.{record-frame}
 use Rattle.frame_record.specs.Rollback.{rollback-frames}
 use Rattle.frame_record.proofs.Recorded.{record-refused}
 use Rattle.frame_record.proofs.RolledBack.{rollback-refused}

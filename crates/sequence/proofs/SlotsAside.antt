@@ -19,7 +19,8 @@ use Rattle.hash_block.specs.declared.Cell.the-variants.{Empty, Full}
 use Rattle.hash_block.specs.Block.{empty-cell}
 use Rattle.frame_index.specs.declared.find.Watermark.{Watermark}
 use Rattle.frame_index.specs.Index.{index-tests, block-of, place-of, block-cells-of, zero-stores, clear-block, name-stores, insert-entry, insert-entries}
-use Rattle.frame_record.specs.Record.{resets, started, blocks-full, drops, record-tests, reset-index, grow-index, enter, drop-stores, enter-stores, records, record-frame}
+use Rattle.index_end.specs.Place.{resets, started, blocks-full, drops}
+use Rattle.frame_record.specs.Record.{record-tests, reset-index, grow-index, enter, drop-stores, enter-stores, records, record-frame}
 use Rattle.frame_record.specs.Rollback.{kept-len, rebuild-last, rollback-stores, rollback-frames}
 use Rattle.frame_index.specs.Find.{find-answer, find-frame}
 use Rattle.frame_list.specs.Latest.{list-tests, pairs-of, listed-entries, iter-latest-frames}

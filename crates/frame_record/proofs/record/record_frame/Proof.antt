@@ -7,7 +7,7 @@ use Rattle.frame_record.proofs.record.record_frame.Reads as reads
 use Rattle.frame_record.proofs.record.record_frame.Lts as lts
 use Rattle.frame_record.proofs.record.enter_first.Reads as enter-first-reads
 use Rattle.frame_record.proofs.record.enter_next.Reads as enter-next-reads
-use Rattle.frame_record.proofs.record.longer.Reads as longer-reads
+use Rattle.index_end.proofs.place.longer.Reads as longer-reads
 use Rattle.frame_record.proofs.record.plan_record.Reads as plan-record-reads
 
 plan-record-requires : tie.Need-plan-record-requires

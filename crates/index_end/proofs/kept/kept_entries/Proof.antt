@@ -1,13 +1,13 @@
 use mathlib.Core.Path.{_≡_, refl}
 use Prim.Native.Nat.{_≤_}
-use Rattle.frame_record.specs.Rollback.{kept-of}
-use Rattle.frame_record.proofs.Kept.{kept-here, kept-before, kept-none}
+use Rattle.index_end.specs.Kept.{kept-of}
+use Rattle.index_end.proofs.Turns.{kept-here, kept-before, kept-none}
 use native.Mathlib.Omega.{arith}
 use borrow.Author.Needs.{needs}
-use Rattle.frame_record.proofs.rollback.kept_entries.Statement.{statement}
-use Rattle.frame_record.proofs.rollback.kept_entries.Tie as tie
-use Rattle.frame_record.proofs.rollback.kept_entries.Reads as reads
-use Rattle.frame_record.proofs.rollback.kept_entries.Lts as lts
+use Rattle.index_end.proofs.kept.kept_entries.Statement.{statement}
+use Rattle.index_end.proofs.kept.kept_entries.Tie as tie
+use Rattle.index_end.proofs.kept.kept_entries.Reads as reads
+use Rattle.index_end.proofs.kept.kept_entries.Lts as lts
 
 abbrev Inv-loop : tie.InvT-loop
 Inv-loop frames len max-frame n₀ n = (n ≤ len) × (kept-of n frames max-frame ≡ kept-of len frames max-frame)

@@ -5,7 +5,7 @@ use Prim.Native.Nat.{ℕ, zero, suc, _-_, _<_, _≤_}
 use native.Mathlib.Omega.{arith}
 use lib.ListN.{getD}
 use borrow.Author.Tests.{le-leb, lt-leb}
-use Rattle.frame_record.specs.Rollback.{kept-of}
+use Rattle.index_end.specs.Kept.{kept-of}
 
 module _ (frames : List ℕ) (bound n w : ℕ) (rest : kept-of n frames bound ≡ w) where
   -- the last frame is within the bound: all n are kept

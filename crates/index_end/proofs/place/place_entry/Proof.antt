@@ -1,11 +1,11 @@
-use Rattle.frame_record.specs.Record.{placed}
+use Rattle.index_end.specs.Place.{placed}
 use borrow.Author.Tests.{le-leb, lt-leb}
 use native.Mathlib.Omega.{arith}
 use borrow.Author.Needs.{needs}
-use Rattle.frame_record.proofs.record.place_entry.Statement.{statement}
-use Rattle.frame_record.proofs.record.place_entry.Tie as tie
-use Rattle.frame_record.proofs.record.place_entry.Reads as reads
-use Rattle.frame_record.proofs.record.place_entry.Lts as lts
+use Rattle.index_end.proofs.place.place_entry.Statement.{statement}
+use Rattle.index_end.proofs.place.place_entry.Tie as tie
+use Rattle.index_end.proofs.place.place_entry.Reads as reads
+use Rattle.index_end.proofs.place.place_entry.Lts as lts
 
 returns : tie.Need-returns
 unfolding placed

@@ -1,0 +1,2 @@
+-- Laws of the kept length.
+pub mod Turns
