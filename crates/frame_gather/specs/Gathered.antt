@@ -1,4 +1,4 @@
--- How they are gathered: by marks, from the last down; and the first one of a page. Assumes nothing.
+-- How the named entries are gathered: by marks, from the last down; and the first entry of a page. Assumes nothing.
 use mathlib.Core.Bool.{Bool, _||_, cond}
 use mathlib.Core.List.{List, [], _∷_}
 use Prim.Native.Nat.{ℕ, zero, suc}

@@ -1,9 +1,9 @@
 -- The first entry of each page. Assumes nothing.
 use mathlib.Core.Path.{_≡_, refl, sym, ap, ap₂, _∙_}
 use mathlib.Core.List.{List, [], _∷_, _++_}
-use Prim.Native.Nat.{ℕ, zero, suc, _+_, _^_, _<_, _≤_}
+use Prim.Native.Nat.{ℕ, zero, suc, _^_, _<_, _≤_}
 use native.Mathlib.Omega.{arith}
-use lib.ListN.{length, getD}
+use lib.ListN.{getD}
 use Rattle.page_sort.specs.Sorted.{having, by-key, by-page, page-of}
 use Rattle.page_sort.proofs.Keys.{by-eqb, having-nil, having-same, having-other, by-key-none, by-key-next}
 use Rattle.frame_gather.specs.Gathered.{head-of}

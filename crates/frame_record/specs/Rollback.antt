@@ -1,9 +1,7 @@
 -- rollback_frames (document 01, "rollback_frames"). Assumes nothing.
-use mathlib.Core.Bool.{Bool, not, _&&_, cond}
-use mathlib.Core.List.{List, [], _∷_}
-use Prim.Native.Nat.{ℕ, zero, suc, _+_, _-_}
-use lib.Dec.{eqb, leb, ltb}
-use lib.ListN.{getD}
+use mathlib.Core.Bool.{not}
+use Prim.Native.Nat.{ℕ, _-_}
+use lib.Dec.{eqb, ltb}
 use Rattle.wal_types.specs.declared.Header.{Header}
 use Rattle.wal_types.specs.Memory.{Memory}
 use Rattle.wal_types.specs.Store.{to-header, frame-index-len, Piece, one, when, _then_}
