@@ -4,13 +4,13 @@ use mathlib.Core.List.{List}
 use Prim.Native.Nat.{ℕ}
 use Rattle.wal_types.specs.declared.Header.{Header}
 use Rattle.wal_types.specs.Call.{Call, Answer}
-use Rattle.frame_index.specs.declared.record.Record.{Record}
-use Rattle.frame_index.specs.declared.record.Record.the-variants.{Stored, Dropped, Refused as RecordRefused}
-use Rattle.frame_index.specs.declared.rollback.Rollback.{Rollback}
-use Rattle.frame_index.specs.declared.rollback.Rollback.the-variants.{Kept, Refused as RollbackRefused}
+use Rattle.frame_record.specs.declared.record.Record.{Record}
+use Rattle.frame_record.specs.declared.record.Record.the-variants.{Stored, Dropped, Refused as RecordRefused}
+use Rattle.frame_record.specs.declared.rollback.Rollback.{Rollback}
+use Rattle.frame_record.specs.declared.rollback.Rollback.the-variants.{Kept, Refused as RollbackRefused}
 use Rattle.frame_index.specs.Index.{IndexCall, index-in}
-use Rattle.frame_index.specs.Record.{record-answer, record-header}
-use Rattle.frame_index.specs.Rollback.{rollback-answer, rollback-header}
+use Rattle.frame_record.specs.Record.{record-answer, record-header}
+use Rattle.frame_record.specs.Rollback.{rollback-answer, rollback-header}
 use Rattle.index_replies.specs.declared.index_reply.IndexReply.{IndexReply}
 use Rattle.replies.specs.Reply.{refusal-number, answer-number}
 use Rattle.index_replies.specs.IndexReply.{record-cells, rollback-cells, with-cells, IndexReplied}

@@ -6,10 +6,10 @@ use Rattle.wal_types.specs.declared.Header.{Header}
 use Rattle.wal_types.specs.Memory.{Memory, Process}
 use Rattle.wal_types.specs.Store.{header-with, frame-index-blocks, frame-index-len, frame-index-overflowed}
 use Rattle.wal_types.specs.Call.{Call, Done, after}
-use Rattle.frame_index.specs.declared.record.Record.{Record}
-use Rattle.frame_index.specs.declared.record.Record.the-variants.{Stored, Dropped, Refused as RecordRefused}
-use Rattle.frame_index.specs.declared.rollback.Rollback.{Rollback}
-use Rattle.frame_index.specs.declared.rollback.Rollback.the-variants.{Kept, Refused as RollbackRefused}
+use Rattle.frame_record.specs.declared.record.Record.{Record}
+use Rattle.frame_record.specs.declared.record.Record.the-variants.{Stored, Dropped, Refused as RecordRefused}
+use Rattle.frame_record.specs.declared.rollback.Rollback.{Rollback}
+use Rattle.frame_record.specs.declared.rollback.Rollback.the-variants.{Kept, Refused as RollbackRefused}
 use Rattle.frame_index.specs.Index.{index-in}
 use Rattle.index_replies.specs.declared.index_reply.IndexReply.{IndexReply}
 use Rattle.index_replies.specs.declared.index_reply.IndexCells.{IndexCells}

@@ -7,8 +7,8 @@ use wal_types::Header;
 ghost use mathlib.Core.Path.{_≡_};
 ghost use mathlib.Core.Bool.{not};
 ghost use lib.Dec.{eqb};
-ghost use Rattle.frame_index.specs.Record.{record-frame};
-ghost use Rattle.frame_index.specs.Rollback.{rollback-frames};
+ghost use Rattle.frame_record.specs.Record.{record-frame};
+ghost use Rattle.frame_record.specs.Rollback.{rollback-frames};
 ghost use Rattle.index_replies.specs.IndexReply.{cells-of, record-cells, rollback-cells, with-cells, IndexReplied};
 
 // The answer of a record or a rollback in numbers. refusal: 0, or the number of the refusal. answer: 1 stored, 0 dropped;

@@ -47,7 +47,7 @@ use denote.Exit.{yes}
 use Rattle.wal_types.specs.declared.Header.{Header}
 use Rattle.wal_types.proofs.Header as T
 use Rattle.wal_types.proofs.Header.Laws as T′
-use Rattle.frame_index.specs.Record.{record-frame}
+use Rattle.frame_record.specs.Record.{record-frame}
 use Rattle.index_replies.specs.declared.index_reply.IndexReply.{IndexReply}
 use Rattle.index_replies.specs.declared.index_reply.IndexCells.{IndexCells}
 use Rattle.index_replies.specs.declared.index_reply.IndexLeft.{IndexLeft}

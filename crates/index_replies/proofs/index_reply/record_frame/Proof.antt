@@ -1,6 +1,6 @@
 use mathlib.Core.Bool.{not}
 use lib.Dec.{eqb}
-use Rattle.frame_index.specs.Record.{record-frame}
+use Rattle.frame_record.specs.Record.{record-frame}
 use Rattle.index_replies.proofs.IndexStores.{record-stores}
 use Rattle.index_replies.proofs.IndexReplies.{record-told}
 use borrow.Author.Needs.{needs}

@@ -1,4 +1,4 @@
-use Rattle.frame_index.specs.Rollback.{rollback-frames}
+use Rattle.frame_record.specs.Rollback.{rollback-frames}
 use Rattle.index_replies.proofs.IndexStores.{rolled-stores}
 use Rattle.index_replies.proofs.IndexReplies.{rollback-told}
 use borrow.Author.Needs.{needs}
