@@ -13,7 +13,6 @@ use Rattle.hash_block.specs.declared.Cell.the-variants.{Empty, Full}
 use Rattle.hash_block.specs.Block.{empty-cell}
 use Rattle.frame_index.specs.Index.{index-tests, block-of, place-of, block-cells-of, zero-stores, clear-block, name-stores, insert-entry, insert-entries}
 use Rattle.index_end.specs.Place.{started, blocks-full, drops, resets}
-use Rattle.index_end.specs.Place.{}
 use Rattle.frame_record.specs.Record.{reset-index, grow-index, enter, drop-stores, enter-stores, record-tests, records, record-frame}
 use Rattle.frame_record.specs.Rollback.{kept-len, rebuild-last, rollback-stores, rollback-frames}
 use Rattle.replies.proofs.Touched.{AllInside, all-of-then, all-of-when, all-of-cond, all-of-unless}

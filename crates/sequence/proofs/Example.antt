@@ -33,7 +33,7 @@ use Rattle.readers.specs.Update.{unregister-reader}
 use Rattle.readers.specs.Register.{some-slot}
 use Rattle.reader_floor.specs.Floor.{floor-from, min-active-reader-frame}
 use Rattle.reader_floor.specs.Limit.{copy-back-limit}
-use Rattle.shared_marks.specs.Registry.{first-record}
+use Rattle.mark_registry.specs.Registry.{first-record}
 use Rattle.shared_marks.specs.Shared.{register-reader-for-snapshot, unregister-reader-for-snapshot}
 use Rattle.grown_index.specs.Entries.{entries, greatest, taken-off, up-to}
 use Rattle.grown_index.specs.Grown.{LongMemory, Grown}

@@ -28,9 +28,9 @@ use Rattle.readers.specs.Update.{release-tests as release-slot-tests}
 use Rattle.reader_floor.specs.Floor.{dead, reclaim-dead, floor-of, floor-answer, probe-tests, db-file-reader, looked-at, min-active-reader-frame, has-active-db-file-reader}
 use Rattle.readers.specs.Register.{found-slot}
 use Rattle.reader_floor.specs.Limit.{limit-of, copy-back-limit}
-use Rattle.shared_marks.specs.declared.registry.Record.{Record}
-use Rattle.shared_marks.specs.declared.registry.Record.the-variants.{At, Nothing}
-use Rattle.shared_marks.specs.Registry.{record-of, one-less, with-record}
+use Rattle.mark_registry.specs.declared.Record.{Record}
+use Rattle.mark_registry.specs.declared.Record.the-variants.{At, Nothing}
+use Rattle.mark_registry.specs.Registry.{record-of, one-less, with-record}
 use Rattle.shared_marks.specs.Shared.{share-tests, shares, register-reader-for-snapshot, last-holder, unshare-tests, unshares, unregister-reader-for-snapshot}
 use Rattle.grown_index.specs.Grown.{SameIndex}
 

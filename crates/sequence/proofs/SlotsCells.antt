@@ -17,9 +17,9 @@ use Rattle.readers.specs.declared.slots.Slot.the-variants.{At as SlotAt, Nothin
 use Rattle.readers.specs.Slots.{short-slots, in-registry}
 use Rattle.readers.specs.Register.{lowest-slot}
 use Rattle.readers.proofs.Lowest.{lowest-at, lowest-below, lowest-nothing}
-use Rattle.shared_marks.specs.declared.registry.Record.{Record}
-use Rattle.shared_marks.specs.declared.registry.Record.the-variants.{At, Nothing}
-use Rattle.shared_marks.specs.Registry.{is-empty, fits, first-record, record-of, empty-record}
+use Rattle.mark_registry.specs.declared.Record.{Record}
+use Rattle.mark_registry.specs.declared.Record.the-variants.{At, Nothing}
+use Rattle.mark_registry.specs.Registry.{is-empty, fits, first-record, record-of, empty-record}
 
 pub not-both : (t : Bool) → t ≡ true → t ≡ false → ⊥
 not-both true a b = let z : _≡_ {A = ℕ} 0 1 = cc in omega arith

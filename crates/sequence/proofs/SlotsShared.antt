@@ -22,9 +22,9 @@ use Rattle.readers.specs.Update.{releases-slot}
 use Rattle.readers.proofs.Cells.{and-true, and-false}
 use Rattle.readers.proofs.Kept.{slot-same, emptied-other}
 use Rattle.readers.proofs.Taken.{TookSlot, register-took}
-use Rattle.shared_marks.specs.declared.registry.Record.{Record}
-use Rattle.shared_marks.specs.declared.registry.Record.the-variants.{At, Nothing}
-use Rattle.shared_marks.specs.Registry.{record-of, empty-record, one-more, one-less, with-record}
+use Rattle.mark_registry.specs.declared.Record.{Record}
+use Rattle.mark_registry.specs.declared.Record.the-variants.{At, Nothing}
+use Rattle.mark_registry.specs.Registry.{record-of, empty-record, one-more, one-less, with-record}
 use Rattle.shared_marks.specs.Shared.{no-room, share-tests, new-record, shares, register-reader-for-snapshot, registered, unshare-tests, unshares, unregister-reader-for-snapshot}
 use Rattle.sequence.specs.Hold.{is-slot, is-ok}
 use Rattle.sequence.proofs.SlotsAside.{by-tests}

@@ -25,7 +25,7 @@ use Rattle.reader_floor.specs.Limit.{limit-of, copy-back-limit}
 use Rattle.readers.proofs.Kept.{SlotSame, slot-same, emptied-other}
 use Rattle.reader_floor.proofs.Kept.{dead-keeps}
 use Rattle.readers.proofs.Taken.{register-keeps}
-use Rattle.shared_marks.specs.Registry.{one-more, one-less}
+use Rattle.mark_registry.specs.Registry.{one-more, one-less}
 use Rattle.sequence.specs.Hold.{accepted}
 use Rattle.sequence.proofs.SlotsAside.{by-tests, Leaves}
 use Rattle.sequence.proofs.SlotsCells.{neither-true, none-applies, rec-at, Fitting, NoRecord, NotNamed, not-named}

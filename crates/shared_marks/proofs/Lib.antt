@@ -1,5 +1,4 @@
--- Laws of scans of the registry, of refusals, of stale slots, and of each call on shared marks.
-pub mod Scan
+-- Laws of refusals, of stale slots, and of each call on shared marks.
 pub mod Refused
 pub mod Stale
 pub mod Shares

@@ -30,14 +30,15 @@ use Rattle.readers.specs.Inner.{available-by}
 use Rattle.readers.proofs.Calls.{refuses, accepts}
 use Rattle.readers.proofs.Some.{some-false}
 use Rattle.readers.proofs.Taken.{register-took}
-use Rattle.shared_marks.specs.declared.registry.Record.{Record}
-use Rattle.shared_marks.specs.declared.registry.Record.the-variants.{At, Nothing}
-use Rattle.shared_marks.specs.declared.registry.Seen.{Seen}
+use Rattle.mark_registry.specs.declared.Record.{Record}
+use Rattle.mark_registry.specs.declared.Record.the-variants.{At, Nothing}
+use Rattle.mark_registry.specs.declared.Seen.{Seen}
 use Rattle.shared_marks.specs.declared.shared.Share.{Share}
 use Rattle.shared_marks.specs.declared.shared.Share.the-variants.{NoSlot as NotTaken, Refused as NotShared}
-use Rattle.shared_marks.specs.Registry.{record-of, empty-record, one-more}
+use Rattle.mark_registry.specs.Registry.{record-of, empty-record, one-more}
 use Rattle.shared_marks.specs.Shared.{no-record, no-room, share-tests, new-record, shares, register-reader-for-snapshot, share-answer, registry-in}
-use Rattle.shared_marks.specs.Inner.{item-at, seen-of, share-refusal, stale-by, no-record-answer, PlanCall}
+use Rattle.mark_registry.specs.Scan.{item-at, seen-of}
+use Rattle.shared_marks.specs.Inner.{share-refusal, stale-by, no-record-answer, PlanCall}
 use Rattle.shared_marks.proofs.Refused.{Passed, passed}
 use Rattle.shared_marks.proofs.Stale.{none-stale, nothing-stored, some-true}
 
@@ -104,9 +105,9 @@ abbrev some-process : Process
 some-process = record { local-readers = []; local-writer = 0; local-checkpoint = 0; registry = [] }
 
 -- what is seen of the first n records, where there are so many
-pub seen-parts : (n : ℕ) (r : List SharedReadMark) (mark : ℕ) (seen : Seen) → seen ≡ seen-of (min n (length r)) r mark → n ≤ length r → (record-of n r mark ≡ seen .place) × ((item-at r (record-of n r mark) ≡ seen .item) × (empty-record n r ≡ seen .empty))
+pub seen-parts : (n : ℕ) (r : List SharedReadMark) (mark : ℕ) (seen : Seen) → seen ≡ seen-of (min n (length r)) r mark → n ≤ length r → (record-of n r mark ≡ seen .place) × ((item-at r (record-of n r mark) ≡ seen .item) × (record-of n r mark ≡ Nothing → empty-record n r ≡ seen .empty))
 unfolding seen-of
-seen-parts n r mark seen e l = let q : min n (length r) ≡ n = omega arith in rw (e, q) (refl, (refl, refl))
+seen-parts n r mark seen e l = let q : min n (length r) ≡ n = omega arith in rw (e, q) (refl, (refl, λ x. rw x))
 
 module _ (n : ℕ) (mode : SharedWalOwnershipMode) (owner mark : ℕ) (bytes b f o l : List ℕ) (records : ℕ) (seen : Seen) (k : ℕ) (e : k ≡ share-refusal n (length b) (length f) (length o) (length l) records owner mark) where
   abbrev Means : Answer → List ℕ → List ℕ → List ℕ → List ℕ → ℕ → SharedReadMark → Type 0
@@ -149,7 +150,7 @@ module _ (n : ℕ) (mode : SharedWalOwnershipMode) (owner mark : ℕ) (bytes b f
     later z p r q =
         later-four (not (slots-in-limits n)) (shorter n (length b) (length f) (length o) (length l) || ltb (length r) n) (eqb owner 0) (eqb mark unused) (cond (full z p r) 13 (cond (bad-card n bytes) 14 0)) k (rw (← q) e) fine
 
-    parts : (r : List SharedReadMark) → seen ≡ seen-of (min n (length r)) r mark → records ≡ length r → (record-of n r mark ≡ seen .place) × ((item-at r (record-of n r mark) ≡ seen .item) × (empty-record n r ≡ seen .empty))
+    parts : (r : List SharedReadMark) → seen ≡ seen-of (min n (length r)) r mark → records ≡ length r → (record-of n r mark ≡ seen .place) × ((item-at r (record-of n r mark) ≡ seen .item) × (record-of n r mark ≡ Nothing → empty-record n r ≡ seen .empty))
     parts r s q = seen-parts n r mark seen s (let z = pass .long in omega arith)
 
     -- a mark already shared, in the record at this place
@@ -173,7 +174,7 @@ module _ (n : ℕ) (mode : SharedWalOwnershipMode) (owner mark : ℕ) (bytes b f
     -- a new mark
     module _ (new : seen .place ≡ Nothing) where
       unplaced : (r : List SharedReadMark) → seen ≡ seen-of (min n (length r)) r mark → records ≡ length r → (record-of n r mark ≡ Nothing) × (empty-record n r ≡ seen .empty)
-      unplaced r s q = let w = parts r s q in (w .0 ∙ new, w .1 .1)
+      unplaced r s q = let w = parts r s q in (w .0 ∙ new, w .1 .1 (w .0 ∙ new))
 
       pub new-bad-card : (item : SharedReadMark) → bad-card n bytes ≡ true → Means (refused 14) b f o l records item
       new-bad-card item x = refused-as 14 item (λ z p r s q. later z p r q ∙ rw (unplaced r s q .0, x)) (λ q. omega arith)

@@ -20,11 +20,12 @@ use Rattle.readers.specs.Slots.{is-fcntl, held, empty-slot, slots-in}
 use Rattle.readers.specs.Update.{not-owner}
 use Rattle.readers.specs.Inner.{slots-refusal, SlotsBecome}
 use Rattle.readers.proofs.Calls.{refuses, accepts, release-one-or-two, release-neither}
-use Rattle.shared_marks.specs.declared.registry.Record.the-variants.{At, Nothing}
-use Rattle.shared_marks.specs.declared.registry.Seen.{Seen}
-use Rattle.shared_marks.specs.Registry.{record-of, one-less}
+use Rattle.mark_registry.specs.declared.Record.the-variants.{At, Nothing}
+use Rattle.mark_registry.specs.declared.Seen.{Seen}
+use Rattle.mark_registry.specs.Registry.{record-of, one-less}
 use Rattle.shared_marks.specs.Shared.{registered, last-holder, unshare-tests, unshares, unregister-reader-for-snapshot, registry-in}
-use Rattle.shared_marks.specs.Inner.{item-at, seen-of, mark-refusal, last-refusal, PlanCall}
+use Rattle.mark_registry.specs.Scan.{item-at, seen-of}
+use Rattle.shared_marks.specs.Inner.{mark-refusal, last-refusal, PlanCall}
 use Rattle.shared_marks.proofs.Shares.{seen-parts}
 
 -- refusals 9, 10 and 12

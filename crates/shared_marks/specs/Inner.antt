@@ -8,49 +8,18 @@ use lib.ListN.{length, getD, set}
 use Rattle.wal_types.specs.declared.SharedReadMark.{SharedReadMark}
 use Rattle.wal_types.specs.declared.SharedWalOwnershipMode.{SharedWalOwnershipMode}
 use Rattle.wal_types.specs.Settings.{slots-in-limits, unused}
-use Rattle.wal_types.specs.Memory.{no-mark, slot-bit}
+use Rattle.wal_types.specs.Memory.{slot-bit}
 use Rattle.wal_types.specs.Refusal.{_if_, lowest, settings, short-memory, not-held, other-owner, no-owner, unused-mark, no-such-mark}
 use Rattle.wal_types.specs.Call.{Call, Answer}
 use Rattle.readers.specs.Slots.{is-fcntl, shorter}
 use Rattle.readers.specs.Register.{found-slot, lowest-slot}
 use Rattle.readers.specs.Register.{some-slot}
 use Rattle.readers.specs.Inner.{available-by}
-use Rattle.shared_marks.specs.declared.registry.Record.{Record}
-use Rattle.shared_marks.specs.declared.registry.Record.the-variants.{At, Nothing}
-use Rattle.shared_marks.specs.declared.registry.Seen.{Seen}
+use Rattle.mark_registry.specs.declared.Seen.{Seen}
+use Rattle.mark_registry.specs.Scan.{seen-of}
 use Rattle.shared_marks.specs.declared.shared.Share.{Share}
 use Rattle.shared_marks.specs.declared.shared.Share.the-variants.{NoSlot as NotTaken, Refused as NotShared}
-use Rattle.shared_marks.specs.Registry.{is-empty, fits, record-of, empty-record}
 use Rattle.shared_marks.specs.Shared.{SharedCall}
-
--- what a scan has seen of the registry before its first record, and one record more: the first that fits is kept
-abbrev pub nothing-seen : Seen
-nothing-seen = record { place = Nothing; item = no-mark; empty = Nothing }
-
-abbrev pub first-of : Record → Bool → ℕ → Record
-first-of (At k) t i = At k
-first-of Nothing t i = cond t (At i) Nothing
-
-abbrev pub item-if : Record → Bool → SharedReadMark → SharedReadMark → SharedReadMark
-item-if (At k) t r old = old
-item-if Nothing t r old = cond t r old
-
-unfoldable pub seen-step : Seen → ℕ → SharedReadMark → ℕ → Seen
-seen-step s i r mark =
-    record {
-      place = first-of (s .place) (fits mark r) i;
-      item = item-if (s .place) (fits mark r) r (s .item);
-      empty = first-of (s .empty) (is-empty r) i;
-    }
-
--- what it has seen of the first n records
-abbrev pub item-at : List SharedReadMark → Record → SharedReadMark
-item-at registry (At i) = getD registry i no-mark
-item-at registry Nothing = no-mark
-
-unfoldable pub seen-of : ℕ → List SharedReadMark → ℕ → Seen
-seen-of n registry mark =
-    record { place = record-of n registry mark; item = item-at registry (record-of n registry mark); empty = empty-record n registry }
 
 -- the number of refusal 1, 2, 9 or 10, 0 for none of them
 unfoldable pub share-refusal : ℕ → ℕ → ℕ → ℕ → ℕ → ℕ → ℕ → ℕ → ℕ

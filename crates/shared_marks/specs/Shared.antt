@@ -16,11 +16,11 @@ use Rattle.readers.specs.declared.slots.Slot.the-variants.{At as SlotAt, Nothin
 use Rattle.readers.specs.Slots.{short-slots, bad-card, held, slots-in}
 use Rattle.readers.specs.Register.{found-slot, chosen-slot, registers}
 use Rattle.readers.specs.Update.{not-owner, releases-slot}
-use Rattle.shared_marks.specs.declared.registry.Record.{Record}
-use Rattle.shared_marks.specs.declared.registry.Record.the-variants.{At, Nothing}
+use Rattle.mark_registry.specs.declared.Record.{Record}
+use Rattle.mark_registry.specs.declared.Record.the-variants.{At, Nothing}
 use Rattle.shared_marks.specs.declared.shared.Share.{Share}
 use Rattle.shared_marks.specs.declared.shared.Share.the-variants.{Taken, NoSlot as NotTaken, Refused as NotShared}
-use Rattle.shared_marks.specs.Registry.{record-of, empty-record, one-more, one-less, with-record}
+use Rattle.mark_registry.specs.Registry.{record-of, empty-record, one-more, one-less, with-record}
 
 -- Refusal 2 of the calls on the registry.
 abbrev pub short-shared : ℕ → Memory → Process → Bool

@@ -1,5 +1,4 @@
 // update_reader and unregister_reader, with the registry lent. Both are turned away from a slot of the registry.
-use crate::registry;
 use readers::update;
 use readers::update::Release;
 use readers::update::Update;
@@ -23,7 +22,7 @@ pub fn update_reader(
     ensures { λ r. ⌜ DirectMove (update-reader n slot (owner .0) mark) (now («reader_frames» .entry)) (now («reader_owners» .entry)) (now (registry .entry)) (update-answer slot (owner .0) mark r) (now («reader_frames» .exit)) ⌝ }
 {
     let records = registry.len();
-    let in_registry = registry::slot_is_shared(registry, n, slot);
+    let in_registry = mark_registry::slot_is_shared(registry, n, slot);
     update::update_core(
         n,
         reader_frames,
@@ -51,7 +50,7 @@ pub fn unregister_reader(
     ensures { λ r. ⌜ SharedCall (unregister-reader n mode slot (owner .0)) (now (bitmap .entry)) (now («reader_frames» .entry)) (now («reader_owners» .entry)) (now («local_readers» .entry)) (now (registry .entry)) (release-answer r) (now (bitmap .exit)) (now («reader_frames» .exit)) (now («reader_owners» .exit)) (now («local_readers» .exit)) (now (registry .entry)) ⌝ }
 {
     let records = registry.len();
-    let in_registry = registry::slot_is_shared(registry, n, slot);
+    let in_registry = mark_registry::slot_is_shared(registry, n, slot);
     update::unregister_core(
         n,
         mode,

@@ -1,7 +1,6 @@
 // register_reader_for_snapshot, register_db_file_reader and unregister_reader_for_snapshot.
-use crate::registry;
-use crate::registry::Record;
-use crate::registry::Seen;
+use mark_registry::Record;
+use mark_registry::Seen;
 use readers::register;
 use readers::register::Register;
 use readers::slots;
@@ -19,7 +18,7 @@ ghost use Prim.Native.Nat.{_+_, _/_, _≤_};
 ghost use lib.ListN.{length};
 ghost use Rattle.readers.specs.Register.{some-slot};
 ghost use Rattle.readers.specs.Update.{release-answer};
-ghost use Rattle.shared_marks.specs.Registry.{one-less};
+ghost use Rattle.mark_registry.specs.Registry.{one-less};
 ghost use Rattle.shared_marks.specs.Shared.{register-reader-for-snapshot, register-db-file-reader, unregister-reader-for-snapshot, share-answer, SharedCall};
 ghost use Rattle.shared_marks.specs.Inner.{share-refusal, stale-cell, stale-by, no-record-answer, mark-refusal, last-refusal, PlanCall};
 
@@ -255,7 +254,7 @@ pub fn register_reader_for_snapshot(
     ensures { λ r. ⌜ SharedCall (register-reader-for-snapshot n mode (owner .0) mark (now (card .entry))) (now (bitmap .entry)) (now («reader_frames» .entry)) (now («reader_owners» .entry)) (now («local_readers» .entry)) (now (registry .entry)) (share-answer r) (now (bitmap .exit)) (now («reader_frames» .exit)) (now («reader_owners» .exit)) (now («local_readers» .exit)) (now (registry .exit)) ⌝ }
 {
     let records = registry.len();
-    let seen = registry::look_through(registry, n, mark);
+    let seen = mark_registry::look_through(registry, n, mark);
     let plan = share_plan(
         n,
         mode,
@@ -269,7 +268,7 @@ pub fn register_reader_for_snapshot(
         owner,
         mark,
     );
-    registry::store_record(registry, plan.at, plan.item);
+    mark_registry::store_record(registry, plan.at, plan.item);
     plan.answer
 }
 
@@ -492,7 +491,7 @@ pub fn unregister_reader_for_snapshot(
     ensures { λ r. ⌜ SharedCall (unregister-reader-for-snapshot n mode mark slot (owner .0)) (now (bitmap .entry)) (now («reader_frames» .entry)) (now («reader_owners» .entry)) (now («local_readers» .entry)) (now (registry .entry)) (release-answer r) (now (bitmap .exit)) (now («reader_frames» .exit)) (now («reader_owners» .exit)) (now («local_readers» .exit)) (now (registry .exit)) ⌝ }
 {
     let records = registry.len();
-    let seen = registry::look_through(registry, n, mark);
+    let seen = mark_registry::look_through(registry, n, mark);
     let plan = unshare_plan(
         n,
         mode,
@@ -506,6 +505,6 @@ pub fn unregister_reader_for_snapshot(
         slot,
         owner,
     );
-    registry::store_record(registry, plan.at, plan.item);
+    mark_registry::store_record(registry, plan.at, plan.item);
     plan.answer
 }

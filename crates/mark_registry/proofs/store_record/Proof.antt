@@ -1,4 +1,4 @@
--- `shared_marks::registry::store_record` meets its contract: a walk of its MIR, by hand. A branch: both arms end in one lemma for the rest of the body. In the first the place of the record is computed, the slice is opened, the record is taken out of the row, stored over, put in, and the slice is closed at the new list.
+-- `mark_registry::store_record` meets its contract: a walk of its MIR, by hand. A branch: both arms end in one lemma for the rest of the body. In the first the place of the record is computed, the slice is opened, the record is taken out of the row, stored over, put in, and the slice is closed at the new list.
 -- Assumes nothing.
 use mathlib.Core.Path.{_≡_, refl, sym, ap, subst}
 use Prim.Native.Nat.{ℕ, _<_, _*_, _^_}
@@ -45,11 +45,11 @@ use Rattle.wal_types.specs.declared.SharedReadMark.{SharedReadMark}
 use Rattle.wal_types.specs.Memory.{no-mark}
 use Rattle.wal_types.proofs.SharedReadMark as T
 use Rattle.wal_types.proofs.SharedReadMark.Laws as T′
-use Rattle.shared_marks.proofs.registry.store_record.Key.{name as #shared-marks·registry·store-record}
-use Rattle.shared_marks.proofs.registry.store_record as store′
-use Rattle.shared_marks.proofs.registry.store_record.Statement as stated
-use Rattle.shared_marks.proofs.registry.store_record.Code as code
-use Rattle.shared_marks.proofs.registry.store_record.Code.Mir as mir′
+use Rattle.mark_registry.proofs.store_record.Key.{name as #mark-registry·store-record}
+use Rattle.mark_registry.proofs.store_record as store′
+use Rattle.mark_registry.proofs.store_record.Statement as stated
+use Rattle.mark_registry.proofs.store_record.Code as code
+use Rattle.mark_registry.proofs.store_record.Code.Mir as mir′
 
 abbrev R : RattleType
 R = T.the-row
@@ -158,5 +158,5 @@ pub store-record-spec : {M : Type 1} → stated.statement M
 unfolding code.routine tablesOf
 store-record-spec 𝓤 H 𝓜 𝓖 𝓡 =
     entered 𝓤 H (tripleOf 𝓤 H (𝓖 .A) store′.signature (store′.spec 𝓤 H (𝓖 .A) (𝓜 .mem) (𝓡 .run)))
-    (tables 𝓤 H 𝓜 𝓡 code.env .C) (tables 𝓤 H 𝓜 𝓡 code.env .Λ) #shared-marks·registry·store-record code.function (code.unfolded 𝓤 H 𝓜 𝓡)
+    (tables 𝓤 H 𝓜 𝓡 code.env .C) (tables 𝓤 H 𝓜 𝓡 code.env .Λ) #mark-registry·store-record code.function (code.unfolded 𝓤 H 𝓜 𝓡)
     (store-meets 𝓤 H (𝓖 .A) (givenOf 𝓤 H 𝓜 𝓖) (𝓜 .mem) (𝓡 .run) (tablesOf 𝓤 H 𝓜 (tables 𝓤 H 𝓜 𝓡 code.env)))

@@ -6,8 +6,8 @@ use lib.Dec.{eqb}
 use lib.ListN.{getD, set}
 use Rattle.wal_types.specs.declared.SharedReadMark.{SharedReadMark}
 use Rattle.wal_types.specs.Memory.{Process, no-mark}
-use Rattle.shared_marks.specs.declared.registry.Record.{Record}
-use Rattle.shared_marks.specs.declared.registry.Record.the-variants.{At, Nothing}
+use Rattle.mark_registry.specs.declared.Record.{Record}
+use Rattle.mark_registry.specs.declared.Record.the-variants.{At, Nothing}
 
 abbrev pub is-empty : SharedReadMark → Bool
 is-empty r = eqb (r .holders) 0

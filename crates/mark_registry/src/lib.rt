@@ -1,0 +1,239 @@
+// The registry of shared marks: a lent slice of records, one for each mark that connections of this process share.
+use wal_types::SharedOwnerRecord;
+use wal_types::SharedReadMark;
+ghost use mathlib.Core.Path.{_≡_};
+ghost use mathlib.Core.Bool.{_&&_, cond};
+ghost use Prim.Native.Nat.{min};
+ghost use lib.ListN.{length, set};
+ghost use Rattle.readers.specs.Slots.{in-registry};
+ghost use Rattle.mark_registry.specs.declared.Wanted.the-variants.{Mark, Slot, Empty};
+ghost use Rattle.mark_registry.specs.Registry.{is-empty};
+ghost use Rattle.mark_registry.specs.Scan.{picks, wants-use, none-picked, nothing-found, found-here, found-of, is-found, seen-alone, seen-with, seen-of};
+
+// A record of the registry found, or none.
+pub enum Record {
+    At(usize),
+    Nothing,
+}
+
+// What a scan looks for: the record of a mark, that of a slot, or an empty one.
+pub enum Wanted {
+    Mark(u64),
+    Slot(usize),
+    Empty,
+}
+
+// What a scan has found: the first record that is wanted, and its contents. It stops at stop.
+pub struct Found {
+    pub stop: usize,
+    pub place: Record,
+    pub item: SharedReadMark,
+}
+
+// What a registration or a release asks of the registry: the record of a mark and its contents and, where there is none, the
+// first empty record.
+pub struct Seen {
+    pub place: Record,
+    pub item: SharedReadMark,
+    pub empty: Record,
+}
+
+fn smaller(a: usize, b: usize) -> usize
+    ensures { λ r. ⌜ r ≡ min a b ⌝ }
+{
+    if a < b { a } else { b }
+}
+
+// Whether the record is wanted.
+fn is_wanted(m: SharedReadMark, wanted: Wanted) -> bool
+    ensures { λ r. ⌜ r ≡ picks wanted m ⌝ }
+{
+    match wanted {
+        Wanted::Mark(mark) => m.holders != 0 && m.mark == mark,
+        Wanted::Slot(slot) => m.holders != 0 && m.slot as usize == slot,
+        Wanted::Empty => m.holders == 0,
+    }
+}
+
+// Whether none of four records is in use.
+fn all_empty(a: SharedReadMark, b: SharedReadMark, c: SharedReadMark, d: SharedReadMark) -> bool
+    ensures { λ r. ⌜ r ≡ (is-empty a && is-empty b && is-empty c && is-empty d) ⌝ }
+{
+    a.holders as u64 + b.holders as u64 + c.holders as u64 + d.holders as u64 == 0
+}
+
+// Whether a record in use is looked for.
+fn wants_use(wanted: Wanted) -> bool
+    ensures { λ r. ⌜ r ≡ wants-use wanted ⌝ }
+{
+    match wanted {
+        Wanted::Mark(mark) => true,
+        Wanted::Slot(slot) => true,
+        Wanted::Empty => false,
+    }
+}
+
+// Whether none of four records is wanted.
+fn none_wanted(
+    a: SharedReadMark,
+    b: SharedReadMark,
+    c: SharedReadMark,
+    d: SharedReadMark,
+    wanted: Wanted,
+) -> bool
+    ensures { λ r. ⌜ r ≡ none-picked wanted a b c d ⌝ }
+{
+    if all_empty(a, b, c, d) {
+        return wants_use(wanted);
+    }
+    if is_wanted(a, wanted) {
+        return false;
+    }
+    if is_wanted(b, wanted) {
+        return false;
+    }
+    if is_wanted(c, wanted) {
+        return false;
+    }
+    !is_wanted(d, wanted)
+}
+
+fn nothing_found(end: usize) -> Found
+    ensures { λ r. ⌜ r ≡ nothing-found end ⌝ }
+{
+    Found {
+        stop: end,
+        place: Record::Nothing,
+        item: SharedReadMark {
+            mark: 0,
+            slot: 0,
+            owner: SharedOwnerRecord(0),
+            holders: 0,
+        },
+    }
+}
+
+// One record more.
+fn see(found: Found, i: usize, m: SharedReadMark, wanted: Wanted) -> Found
+    ensures { λ r. ⌜ r ≡ cond (picks wanted m) (found-here i m) found ⌝ }
+{
+    if is_wanted(m, wanted) {
+        let here = Record::At(i);
+        return Found {
+            stop: i,
+            place: here,
+            item: m,
+        };
+    }
+    found
+}
+
+// The first of the first n records, or of all if there are fewer, that is wanted. Four at a time are passed over where none is.
+fn first_record(registry: &[SharedReadMark], n: usize, wanted: Wanted) -> Found
+    ensures { λ r. ⌜ r ≡ found-of (picks wanted) (now (registry .entry)) (min n (length (now (registry .entry)))) (min n (length (now (registry .entry)))) ⌝ }
+{
+    let end = smaller(n, registry.len());
+    let mut found = nothing_found(end);
+    let mut i = 0;
+    while i < found.stop {
+        let mut pass = false;
+        if 4 <= found.stop - i {
+            pass = none_wanted(
+                registry[i],
+                registry[i + 1],
+                registry[i + 2],
+                registry[i + 3],
+                wanted,
+            );
+        }
+        if pass {
+            i += 4;
+        } else {
+            found = see(found, i, registry[i], wanted);
+            i += 1;
+        }
+    }
+    found
+}
+
+fn mark_wanted(mark: u64) -> Wanted
+    ensures { λ r. ⌜ r ≡ Mark mark ⌝ }
+{
+    Wanted::Mark(mark)
+}
+
+fn slot_wanted(slot: usize) -> Wanted
+    ensures { λ r. ⌜ r ≡ Slot slot ⌝ }
+{
+    Wanted::Slot(slot)
+}
+
+fn empty_wanted() -> Wanted
+    ensures { λ r. ⌜ r ≡ Empty ⌝ }
+{
+    Wanted::Empty
+}
+
+fn is_found(place: Record) -> bool
+    ensures { λ r. ⌜ r ≡ is-found place ⌝ }
+{
+    match place {
+        Record::At(i) => true,
+        Record::Nothing => false,
+    }
+}
+
+fn seen_alone(found: Found) -> Seen
+    ensures { λ r. ⌜ r ≡ seen-alone found ⌝ }
+{
+    let place = found.place;
+    let item = found.item;
+    let free = Record::Nothing;
+    Seen {
+        place: place,
+        item: item,
+        empty: free,
+    }
+}
+
+fn seen_with(found: Found, empty: Found) -> Seen
+    ensures { λ r. ⌜ r ≡ seen-with found empty ⌝ }
+{
+    let place = found.place;
+    let item = found.item;
+    let free = empty.place;
+    Seen {
+        place: place,
+        item: item,
+        empty: free,
+    }
+}
+
+// Looks for a mark among the first n records, or all if there are fewer, and for an empty one where the mark has none.
+pub fn look_through(registry: &[SharedReadMark], n: usize, mark: u64) -> Seen
+    ensures { λ r. ⌜ r ≡ seen-of (min n (length (now (registry .entry)))) (now (registry .entry)) mark ⌝ }
+{
+    let found = first_record(registry, n, mark_wanted(mark));
+    if is_found(found.place) {
+        return seen_alone(found);
+    }
+    let free = first_record(registry, n, empty_wanted());
+    seen_with(found, free)
+}
+
+// Whether one of the first n records is in use for the slot.
+pub fn slot_is_shared(registry: &[SharedReadMark], n: usize, slot: usize) -> bool
+    ensures { λ r. ⌜ r ≡ in-registry n (now (registry .entry)) slot ⌝ }
+{
+    let found = first_record(registry, n, slot_wanted(slot));
+    is_found(found.place)
+}
+
+// Stores one record. Past the end nothing is written.
+pub fn store_record(registry: &mut [SharedReadMark], i: usize, m: SharedReadMark)
+    ensures { λ _. ⌜ now (registry .exit) ≡ set (now (registry .entry)) i m ⌝ }
+{
+    if i < registry.len() {
+        registry[i] = m;
+    }
+}
