@@ -6,7 +6,7 @@ use Prim.Native.Nat.{ℕ}
 use lib.Dec.{eqb, ltb}
 use Rattle.wal_types.specs.declared.Header.{Header}
 use Rattle.wal_types.specs.declared.SharedWalOwnershipMode.{SharedWalOwnershipMode}
-use Rattle.wal_types.specs.declared.SharedWalOwnershipMode.the-variants.{LinuxOfd, ProcessScopedFcntl}
+use Rattle.wal_types.specs.Settings.{is-fcntl}
 use Rattle.wal_types.specs.Memory.{Memory, Process, with-header}
 use Rattle.wal_types.specs.Store.{HeaderCell, to-header, writer-owner, checkpoint-owner}
 use Rattle.wal_types.specs.Refusal.{Test, _if_, not-held, other-owner, no-owner, card}
@@ -32,10 +32,6 @@ local-owner Checkpoint p = p .local-checkpoint
 abbrev pub with-local-owner : Lock → ℕ → Process → Process
 with-local-owner Writer v p = record { local-readers = p .local-readers; local-writer = v; local-checkpoint = p .local-checkpoint; registry = p .registry }
 with-local-owner Checkpoint v p = record { local-readers = p .local-readers; local-writer = p .local-writer; local-checkpoint = v; registry = p .registry }
-
-abbrev pub is-fcntl : SharedWalOwnershipMode → Bool
-is-fcntl LinuxOfd = false
-is-fcntl ProcessScopedFcntl = true
 
 -- Acquire: refused for owner 0, and for a card byte above 2.
 abbrev pub acquire-tests : ℕ → ℕ → List Test

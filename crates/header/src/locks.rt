@@ -7,7 +7,8 @@ ghost use mathlib.Core.Path.{_≡_};
 ghost use mathlib.Core.Bool.{not, _&&_};
 ghost use lib.Dec.{eqb};
 ghost use Rattle.wal_types.specs.Store.{header-with};
-ghost use Rattle.header.specs.Locks.{owner-cell, is-fcntl, try-acquire, release, acquire-answer, acquire-header, acquire-local, release-answer, release-header, release-local, LockCall};
+ghost use Rattle.wal_types.specs.Settings.{is-fcntl};
+ghost use Rattle.header.specs.Locks.{owner-cell, try-acquire, release, acquire-answer, acquire-header, acquire-local, release-answer, release-header, release-local, LockCall};
 
 pub enum Lock {
     Writer,

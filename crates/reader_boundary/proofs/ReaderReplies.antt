@@ -6,11 +6,11 @@ use Rattle.wal_types.specs.declared.SharedReadMark.{SharedReadMark}
 use Rattle.wal_types.specs.declared.SharedWalOwnershipMode.{SharedWalOwnershipMode}
 use Rattle.wal_types.specs.Memory.{Memory, Process}
 use Rattle.wal_types.specs.Call.{Call, Answer, Done, refusal, after, done}
-use Rattle.readers.specs.Slots.{ReaderCall}
+use Rattle.reader_slots.specs.Slots.{ReaderCall}
 use Rattle.readers.specs.Register.{register-reader}
-use Rattle.readers.specs.Update.{unregister-reader}
+use Rattle.reader_moves.specs.Update.{unregister-reader}
 use Rattle.reader_floor.specs.Floor.{min-active-reader-frame, has-active-db-file-reader}
-use Rattle.reader_floor.specs.Limit.{copy-back-limit, LimitCall}
+use Rattle.reader_limit.specs.Limit.{copy-back-limit, LimitCall}
 use Rattle.shared_marks.specs.Shared.{register-reader-for-snapshot, unregister-reader-for-snapshot, SharedCall}
 use Rattle.shared_marks.specs.Direct.{DirectMove}
 use Rattle.replies.specs.declared.Mode.{Mode}

@@ -28,10 +28,10 @@ use Rattle.wal_types.proofs.SharedOwnerRecord as O
 use Rattle.wal_types.proofs.SharedOwnerRecord.Laws as O′
 use Rattle.wal_types.proofs.SharedWalOwnershipMode as K
 use Rattle.wal_types.proofs.SharedWalOwnershipMode.Laws as K′
-use Rattle.readers.specs.declared.update.Release.{Release}
-use Rattle.readers.specs.Update.{release-answer}
-use Rattle.readers.proofs.update.Release as L
-use Rattle.readers.proofs.update.Release.Laws as L′
+use Rattle.reader_moves.specs.declared.update.Release.{Release}
+use Rattle.reader_moves.specs.Update.{release-answer}
+use Rattle.reader_moves.proofs.update.Release as L
+use Rattle.reader_moves.proofs.update.Release.Laws as L′
 use Rattle.shared_marks.specs.declared.shared.Share.{Share}
 use Rattle.shared_marks.specs.Shared.{share-answer}
 use Rattle.shared_marks.proofs.shared.Share as S

@@ -6,9 +6,10 @@ use Prim.Native.Nat.{ℕ}
 use Rattle.wal_types.specs.declared.SharedWalOwnershipMode.{SharedWalOwnershipMode}
 use Rattle.wal_types.specs.Memory.{Memory, Process}
 use Rattle.wal_types.specs.Store.{apply}
-use Rattle.readers.specs.Slots.{held, granted}
-use Rattle.readers.proofs.Kept.{SlotSame, emptied-keeps}
-use Rattle.reader_floor.specs.Floor.{skipped, dead, reclaim-dead}
+use Rattle.reader_slots.specs.Slots.{held, granted}
+use Rattle.reader_slots.proofs.Kept.{SlotSame, emptied-keeps}
+use Rattle.live_readers.specs.Live.{skipped, dead}
+use Rattle.reader_floor.specs.Floor.{reclaim-dead}
 
 middle-false : (a c : Bool) → (a && false && c) ≡ false
 middle-false true c = refl

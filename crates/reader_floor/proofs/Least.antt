@@ -12,17 +12,16 @@ use lib.ListN.{getD}
 use borrow.Author.Tests.{eq-eqb, ne-eqb}
 use Rattle.wal_types.specs.declared.SharedWalOwnershipMode.{SharedWalOwnershipMode}
 use Rattle.wal_types.specs.Memory.{Memory, Process}
-use Rattle.wal_types.specs.Refusal.{lowest}
-use Rattle.wal_types.specs.Call.{Answer, refused, none, frame-found, Call, Done, after, done, does}
-use Rattle.reader_floor.specs.declared.floor.Floor.{Floor}
-use Rattle.reader_floor.specs.declared.floor.Floor.the-variants.{Mark, NoMark}
-use Rattle.readers.specs.Slots.{held}
-use Rattle.reader_floor.specs.Floor.{skipped, live, lower-floor, floor-from, floor-of, floor-answer, probe-tests, reclaim-dead, min-active-reader-frame, has-active-db-file-reader, looked-at, db-file-reader}
-use Rattle.readers.specs.Register.{found-slot}
-use Rattle.wal_types.specs.Call.{flag}
-use Rattle.wal_types.specs.Refusal.{Test}
-use Rattle.readers.proofs.Calls.{refuses, accepts}
-use Rattle.readers.proofs.Kept.{SlotSame, slot-same}
+use Rattle.wal_types.specs.Refusal.{lowest, Test}
+use Rattle.wal_types.specs.Call.{Answer, refused, none, frame-found, Call, Done, after, done, does, flag}
+use Rattle.live_readers.specs.declared.live.Floor.{Floor}
+use Rattle.live_readers.specs.declared.live.Floor.the-variants.{Mark, NoMark}
+use Rattle.reader_slots.specs.Slots.{held}
+use Rattle.live_readers.specs.Live.{skipped, live, lower-floor, looked-at}
+use Rattle.reader_floor.specs.Floor.{floor-from, floor-of, floor-answer, probe-tests, reclaim-dead, min-active-reader-frame, has-active-db-file-reader, db-file-reader}
+use Rattle.reader_slots.specs.Search.{found-slot}
+use Rattle.reader_slots.proofs.Calls.{refuses, accepts}
+use Rattle.reader_slots.proofs.Kept.{SlotSame, slot-same}
 use Rattle.reader_floor.proofs.Kept.{dead-keeps}
 
 -- the floor is there, and at most the mark

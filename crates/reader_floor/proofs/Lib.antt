@@ -1,7 +1,5 @@
--- Laws of the look for a failed probe, of live slots, of the floor and of each call.
-pub mod Looked
+-- Laws of the pass over live slots, of the floor and of each call.
 pub mod Live
 pub mod Floored
-pub mod Limited
 pub mod Kept
 pub mod Least

@@ -8,29 +8,25 @@ use native.Mathlib.Omega.{arith}
 use lib.Dec.{eqb}
 use lib.ListN.{length, getD, set}
 use lib.Seq.{getD-set-other}
-use borrow.Author.Tests.{eq-eqb}
 use Rattle.wal_types.specs.declared.SharedWalOwnershipMode.{SharedWalOwnershipMode}
 use Rattle.wal_types.specs.Settings.{unused}
 use Rattle.wal_types.specs.Memory.{Memory, Process}
 use Rattle.wal_types.specs.Fresh.{fresh-header}
-use Rattle.readers.specs.declared.slots.Slot.{Slot}
-use Rattle.reader_floor.specs.declared.floor.Floor.{Floor}
-use Rattle.reader_floor.specs.declared.floor.Floor.the-variants.{Mark, NoMark}
-use Rattle.reader_floor.specs.declared.floor.LiveFrame.{LiveFrame}
-use Rattle.readers.specs.Slots.{granted, slots-in, locals-in}
-use Rattle.readers.specs.Register.{lowest-slot}
-use Rattle.reader_floor.specs.Floor.{dead, live, lower-floor, floor-from, floor-of, looked-at}
-use Rattle.readers.specs.Inner.{emptied-if, SlotsBecome}
-use Rattle.reader_floor.specs.Inner.{skipped-cell, live-by, live-db-file-by, live-frame, floor-with, is-db-file, FloorOf, DbFileOf}
-use Rattle.readers.proofs.Cells.{getD-any, live-not-dead}
-use Rattle.readers.proofs.Emptied.{emptied-slot, emptied, emptied-done, emptied-next}
-use Rattle.readers.proofs.Lowest.{lowest-here, lowest-next, lowest-done}
-use Rattle.reader_floor.proofs.Looked.{looked-bound}
-
--- mark 0 is never the floor
-pub zero-mark : (so-far : Floor) (frame : ℕ) → frame ≡ 0 → so-far ≡ lower-floor so-far frame
-zero-mark (Mark f) frame e = rw (eq-eqb frame 0 e)
-zero-mark NoMark frame e = rw (eq-eqb frame 0 e)
+use Rattle.reader_slots.specs.declared.slots.Slot.{Slot}
+use Rattle.live_readers.specs.declared.live.Floor.{Floor}
+use Rattle.live_readers.specs.declared.live.Floor.the-variants.{NoMark}
+use Rattle.live_readers.specs.declared.live.LiveFrame.{LiveFrame}
+use Rattle.reader_slots.specs.Slots.{granted, slots-in, locals-in}
+use Rattle.reader_slots.specs.Search.{lowest-slot}
+use Rattle.live_readers.specs.Live.{dead, live, lower-floor, looked-at}
+use Rattle.reader_floor.specs.Floor.{floor-from, floor-of}
+use Rattle.reader_slots.specs.Inner.{emptied-if, SlotsBecome}
+use Rattle.live_readers.specs.Inner.{skipped-cell, live-by, live-db-file-by, live-frame, floor-with, is-db-file}
+use Rattle.reader_floor.specs.Inner.{FloorOf, DbFileOf}
+use Rattle.reader_slots.proofs.Cells.{getD-any, live-not-dead}
+use Rattle.reader_slots.proofs.Emptied.{emptied-slot, emptied, emptied-done, emptied-next}
+use Rattle.reader_slots.proofs.Lowest.{lowest-here, lowest-next, lowest-done}
+use Rattle.live_readers.proofs.Looked.{looked-bound}
 
 -- the slots from i on are as they were
 pub record SameFrom (i : ℕ) (f o f₀ o₀ : List ℕ) : Type 0 where

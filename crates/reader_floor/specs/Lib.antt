@@ -1,4 +1,3 @@
--- The calls that look at every reader, in document 01's order.
+-- The calls that look at every reader.
 pub mod Floor
-pub mod Limit
 pub mod Inner

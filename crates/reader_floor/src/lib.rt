@@ -1,3 +1,2 @@
-// What live readers hold back: the floor, the copy-back limit, and whether the database file has a reader.
+// What live readers hold back: the floor, and whether the database file has a reader.
 pub mod floor;
-pub mod limit;

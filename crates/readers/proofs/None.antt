@@ -16,14 +16,16 @@ use Rattle.wal_types.specs.Store.{Piece, apply, when, _then_}
 use Rattle.wal_types.specs.Call.{none, Done, after, done}
 use Rattle.bitmap.specs.Bit.{set-bit}
 use Rattle.bitmap.proofs.Bits.{set-same}
-use Rattle.readers.specs.declared.slots.Slot.{Slot}
-use Rattle.readers.specs.declared.slots.Slot.the-variants.{At, Nothing}
-use Rattle.readers.specs.Slots.{is-fcntl, held, is-free, granted, empty-slot, empty-slots}
-use Rattle.readers.specs.Inner.{emptied-if}
-use Rattle.readers.specs.Register.{available, either-slot, take-found, slot-answer, hold-found, first-slot, second-slot, chosen-slot, reclaimable, reclaim-all, reclaim-unless, register-reader}
-use Rattle.readers.proofs.Calls.{apply-append}
-use Rattle.readers.proofs.Lowest.{lowest-nothing}
-use Rattle.readers.proofs.Kept.{SlotSame, slot-same, slot-same-then, emptied-other}
+use Rattle.reader_slots.specs.declared.slots.Slot.{Slot}
+use Rattle.reader_slots.specs.declared.slots.Slot.the-variants.{At, Nothing}
+use Rattle.wal_types.specs.Settings.{is-fcntl}
+use Rattle.reader_slots.specs.Slots.{held, is-free, granted, empty-slot, empty-slots}
+use Rattle.reader_slots.specs.Inner.{emptied-if}
+use Rattle.readers.specs.Register.{available, take-found, slot-answer, hold-found, first-slot, second-slot, chosen-slot, reclaimable, reclaim-all, reclaim-unless, register-reader}
+use Rattle.reader_slots.specs.Search.{either-slot}
+use Rattle.reader_slots.proofs.Calls.{apply-append}
+use Rattle.reader_slots.proofs.Lowest.{lowest-nothing}
+use Rattle.reader_slots.proofs.Kept.{SlotSame, slot-same, slot-same-then, emptied-other}
 use Rattle.readers.proofs.Taken.{number-given, register-refused, register-accepted, room}
 
 -- a pass from slot i on leaves the slots before it

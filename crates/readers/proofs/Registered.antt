@@ -13,12 +13,14 @@ use Rattle.wal_types.specs.Memory.{Memory, Process}
 use Rattle.wal_types.specs.Store.{apply}
 use Rattle.wal_types.specs.Refusal.{Test, _if_, lowest, no-owner, unused-mark, card}
 use Rattle.wal_types.specs.Call.{Answer, refused, slot-taken, none, after, done}
-use Rattle.readers.specs.declared.slots.Slot.{Slot}
-use Rattle.readers.specs.declared.slots.Slot.the-variants.{At, Nothing}
-use Rattle.readers.specs.Slots.{bad-card, take-slot, slots-in, locals-in, ReaderCall}
-use Rattle.readers.specs.Register.{lowest-slot, take-found, slot-answer, hold-found, first-slot, chosen-slot, reclaim-all, reclaim-unless, registers, register-tests, register-reader}
-use Rattle.readers.specs.Inner.{slots-refusal, SlotsBecome, available-by, Chosen}
-use Rattle.readers.proofs.Calls.{apply-append, refuses, accepts, slots-tests, one-or-two, neither}
+use Rattle.reader_slots.specs.declared.slots.Slot.{Slot}
+use Rattle.reader_slots.specs.declared.slots.Slot.the-variants.{At, Nothing}
+use Rattle.reader_slots.specs.Slots.{bad-card, take-slot, slots-in, locals-in, ReaderCall}
+use Rattle.reader_slots.specs.Search.{lowest-slot}
+use Rattle.readers.specs.Register.{take-found, slot-answer, hold-found, first-slot, chosen-slot, reclaim-all, reclaim-unless, registers, register-tests, register-reader}
+use Rattle.reader_slots.specs.Inner.{slots-refusal, SlotsBecome, available-by}
+use Rattle.readers.specs.Inner.{Chosen}
+use Rattle.reader_slots.proofs.Calls.{apply-append, refuses, accepts, slots-tests, one-or-two, neither}
 
 module _ (n : ℕ) (mode : SharedWalOwnershipMode) (bytes b f o l : List ℕ) where
   -- the first attempt finds a slot: nothing is reclaimed

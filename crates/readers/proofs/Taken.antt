@@ -20,14 +20,16 @@ use Rattle.wal_types.specs.Refusal.{lowest}
 use Rattle.wal_types.specs.Call.{refused, slot-taken, Done, after, done}
 use Rattle.bitmap.specs.Bit.{clear-bit}
 use Rattle.bitmap.proofs.Bits.{clear-same}
-use Rattle.readers.specs.declared.slots.Slot.{Slot}
-use Rattle.readers.specs.declared.slots.Slot.the-variants.{At, Nothing}
-use Rattle.readers.specs.Slots.{short-slots, bad-card, held, is-free, granted, take-slot, empty-slot, empty-slots}
-use Rattle.readers.specs.Register.{available, either-slot, take-found, slot-answer, hold-found, first-slot, second-slot, chosen-slot, reclaim-all, reclaimable, reclaim-unless, registers, register-tests, register-reader}
-use Rattle.readers.specs.Inner.{slots-refusal, emptied-if}
-use Rattle.readers.proofs.Calls.{apply-append, refuses, accepts, Enough, enough}
-use Rattle.readers.proofs.Lowest.{found-below, lowest-at}
-use Rattle.readers.proofs.Kept.{SlotSame, slot-same, slot-same-then, taken-other, reclaim-keeps}
+use Rattle.reader_slots.specs.declared.slots.Slot.{Slot}
+use Rattle.reader_slots.specs.declared.slots.Slot.the-variants.{At, Nothing}
+use Rattle.reader_slots.specs.Slots.{short-slots, bad-card, held, is-free, granted, take-slot, empty-slot, empty-slots}
+use Rattle.readers.specs.Register.{available, take-found, slot-answer, hold-found, first-slot, second-slot, chosen-slot, reclaim-all, reclaimable, reclaim-unless, registers, register-tests, register-reader}
+use Rattle.reader_slots.specs.Search.{either-slot}
+use Rattle.reader_slots.specs.Inner.{slots-refusal, emptied-if}
+use Rattle.reader_slots.proofs.Calls.{apply-append, refuses, accepts, Enough, enough}
+use Rattle.reader_slots.proofs.Lowest.{found-below, lowest-at}
+use Rattle.reader_slots.proofs.Kept.{SlotSame, slot-same, slot-same-then, taken-other}
+use Rattle.readers.proofs.Kept.{reclaim-keeps}
 
 -- the lists have as many cells as before
 pub record SameLengths (m m′ : Memory) : Type 0 where

@@ -1,5 +1,3 @@
--- The calls on reader slots, in document 01's order.
-pub mod Slots
+-- register_reader.
 pub mod Register
-pub mod Update
 pub mod Inner

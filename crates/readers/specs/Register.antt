@@ -1,39 +1,25 @@
 -- register_reader (document 01, "Register"). Assumes nothing.
-use mathlib.Core.Bool.{Bool, true, false, not, _&&_, _||_, cond}
+use mathlib.Core.Bool.{Bool, not, _&&_}
 use mathlib.Core.List.{List, [], _∷_}
-use Prim.Native.Nat.{ℕ, zero, suc, _+_}
+use Prim.Native.Nat.{ℕ}
 use lib.Dec.{eqb}
 use lib.ListN.{getD}
 use Rattle.wal_types.specs.declared.SharedWalOwnershipMode.{SharedWalOwnershipMode}
-use Rattle.wal_types.specs.Settings.{slots-in-limits, unused}
+use Rattle.wal_types.specs.Settings.{slots-in-limits, unused, is-fcntl}
 use Rattle.wal_types.specs.Memory.{Memory, Process}
 use Rattle.wal_types.specs.Store.{Piece, apply, _then_}
 use Rattle.wal_types.specs.Refusal.{Test, _if_, settings, short-memory, no-owner, unused-mark, card}
 use Rattle.wal_types.specs.Call.{Call, Answer, refused, slot-taken, none, unless}
-use Rattle.readers.specs.declared.slots.Slot.{Slot}
-use Rattle.readers.specs.declared.slots.Slot.the-variants.{At, Nothing}
+use Rattle.reader_slots.specs.declared.slots.Slot.{Slot}
+use Rattle.reader_slots.specs.declared.slots.Slot.the-variants.{At, Nothing}
 use Rattle.readers.specs.declared.register.Register.{Register}
 use Rattle.readers.specs.declared.register.Register.the-variants.{Taken, NoSlot, Refused}
-use Rattle.readers.specs.Slots.{is-fcntl, short-slots, bad-card, held, is-free, granted, with-local, take-slot, empty-slots}
+use Rattle.reader_slots.specs.Slots.{short-slots, bad-card, held, is-free, granted, with-local, take-slot, empty-slots}
+use Rattle.reader_slots.specs.Search.{lowest-slot, either-slot}
 
 -- a slot that can be taken: not held here, its bit 1, and its card 1
 abbrev pub available : List ℕ → Process → Memory → ℕ → Bool
 available bytes p m i = not (held p i) && is-free m i && granted bytes i
-
--- the lowest of so many slots from this one on that the test picks
-unfoldable pub lowest-slot : (ℕ → Bool) → ℕ → ℕ → Slot
-lowest-slot test zero i = Nothing
-lowest-slot test (suc left) i = cond (test i) (At i) (lowest-slot test left (i + 1))
-
--- whether there is one
-abbrev pub found-slot : Slot → Bool
-found-slot (At i) = true
-found-slot Nothing = false
-
--- whether the test holds of one of so many slots from this one on
-unfoldable pub some-slot : (ℕ → Bool) → ℕ → ℕ → Bool
-some-slot test zero i = false
-some-slot test (suc left) i = test i || some-slot test left (i + 1)
 
 -- a slot that is reclaimed: its bit 0, not held here, its card 1, and in Fcntl an owner
 abbrev pub reclaimable : SharedWalOwnershipMode → List ℕ → Process → Memory → ℕ → Bool
@@ -63,11 +49,6 @@ first-slot n bytes m p = lowest-slot (available bytes p m) n 0
 
 abbrev pub second-slot : ℕ → SharedWalOwnershipMode → List ℕ → Memory → Process → Slot
 second-slot n mode bytes m p = first-slot n bytes (apply (reclaim-all n mode bytes p m) m) p
-
--- the slot found by one attempt or the other
-abbrev pub either-slot : Slot → Slot → Slot
-either-slot (At i) second = At i
-either-slot Nothing second = second
 
 abbrev pub chosen-slot : ℕ → SharedWalOwnershipMode → List ℕ → Memory → Process → Slot
 chosen-slot n mode bytes m p = either-slot (first-slot n bytes m p) (second-slot n mode bytes m p)

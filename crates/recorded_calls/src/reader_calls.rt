@@ -3,7 +3,7 @@ use crate::row;
 use crate::row::Row;
 use reader_floor::floor::DbFileReader;
 use reader_floor::floor::MinFrame;
-use reader_floor::limit::Limit;
+use reader_limit::limit::Limit;
 use readers::register::Register;
 use wal_types::SharedOwnerRecord;
 use wal_types::SharedWalOwnershipMode;
@@ -200,7 +200,7 @@ fn copy_back_limit(slots: Slots, card: &[u8], max_frame: u64) -> Row {
     let mut frames = slots.frames;
     let mut owners = slots.owners;
     let local_owners = slots.local_owners;
-    let limit = reader_floor::limit::copy_back_limit(
+    let limit = reader_limit::limit::copy_back_limit(
         slots.n,
         mode,
         max_frame,

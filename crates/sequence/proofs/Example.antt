@@ -27,10 +27,10 @@ use Rattle.frame_record.specs.Rollback.{kept-len, rollback-frames}
 use Rattle.frame_index.specs.Find.{lookup-answer, find-frame}
 use Rattle.frame_record.proofs.RolledBack.{rollback-odd}
 use Rattle.frame_list.specs.Latest.{listed-entries, pairs-of, iter-latest-frames}
-use Rattle.readers.specs.Slots.{slots-in, locals-in, byte-above, in-registry, empty-slots}
-use Rattle.readers.specs.Register.{lowest-slot, register-reader}
-use Rattle.readers.specs.Update.{unregister-reader}
-use Rattle.readers.specs.Register.{some-slot}
+use Rattle.reader_slots.specs.Slots.{slots-in, locals-in, byte-above, in-registry, empty-slots}
+use Rattle.reader_slots.specs.Search.{lowest-slot, some-slot}
+use Rattle.readers.specs.Register.{register-reader}
+use Rattle.reader_moves.specs.Update.{unregister-reader}
 use Rattle.reader_floor.specs.Floor.{floor-from, min-active-reader-frame}
 use Rattle.reader_floor.specs.Limit.{copy-back-limit}
 use Rattle.mark_registry.specs.Registry.{first-record}

@@ -19,9 +19,9 @@ use Rattle.frame_index.specs.declared.find.Watermark.{Watermark}
 use Rattle.frame_index.specs.Index.{index-tests}
 use Rattle.frame_index.specs.Find.{find-answer, find-frame}
 use Rattle.frame_list.specs.Latest.{list-tests, pairs-of, listed-entries, iter-latest-frames}
-use Rattle.readers.specs.declared.slots.Slot.{Slot}
-use Rattle.readers.specs.declared.slots.Slot.the-variants.{At as SlotAt, Nothing as NoSlot}
-use Rattle.readers.specs.Slots.{empty-slot, empty-slots}
+use Rattle.reader_slots.specs.declared.slots.Slot.{Slot}
+use Rattle.reader_slots.specs.declared.slots.Slot.the-variants.{At as SlotAt, Nothing as NoSlot}
+use Rattle.reader_slots.specs.Slots.{empty-slot, empty-slots}
 use Rattle.readers.specs.Register.{reclaim-unless, take-found, first-slot, chosen-slot, registers, register-tests, register-reader}
 use Rattle.readers.specs.Update.{update-tests, update-reader, releases-slot, unregister-reader}
 use Rattle.readers.specs.Update.{release-tests as release-slot-tests}

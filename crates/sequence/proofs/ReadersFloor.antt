@@ -11,19 +11,20 @@ use lib.Seq.{getD-set-same, getD-set-other, set-out}
 use borrow.Author.Tests.{ne-eqb}
 use Rattle.wal_types.specs.declared.SharedWalOwnershipMode.{SharedWalOwnershipMode}
 use Rattle.wal_types.specs.declared.SharedWalOwnershipMode.the-variants.{LinuxOfd, ProcessScopedFcntl}
-use Rattle.wal_types.specs.Settings.{unused}
+use Rattle.wal_types.specs.Settings.{unused, is-fcntl}
 use Rattle.wal_types.specs.Memory.{Memory, Process}
 use Rattle.wal_types.specs.Store.{apply, when}
 use Rattle.wal_types.specs.Refusal.{lowest}
 use Rattle.wal_types.specs.Call.{value, frame-found, Done, after, does}
 use Rattle.wal_types.proofs.Stores.{apply-append}
-use Rattle.reader_floor.specs.declared.floor.Floor.{Floor}
-use Rattle.reader_floor.specs.declared.floor.Floor.the-variants.{Mark, NoMark}
-use Rattle.readers.specs.Slots.{is-fcntl, held, granted, empty-slot, empty-slots}
-use Rattle.reader_floor.specs.Floor.{skipped, dead, floor-of, floor-answer, probe-tests, reclaim-dead, min-active-reader-frame}
-use Rattle.reader_floor.specs.Limit.{limit-of, copy-back-limit}
-use Rattle.readers.proofs.Cells.{getD-any, and-false}
-use Rattle.readers.proofs.Kept.{SlotSame, slot-same, emptied-other}
+use Rattle.live_readers.specs.declared.live.Floor.{Floor}
+use Rattle.live_readers.specs.declared.live.Floor.the-variants.{Mark, NoMark}
+use Rattle.reader_slots.specs.Slots.{held, granted, empty-slot, empty-slots}
+use Rattle.live_readers.specs.Live.{skipped, dead}
+use Rattle.reader_floor.specs.Floor.{floor-of, floor-answer, probe-tests, reclaim-dead, min-active-reader-frame}
+use Rattle.reader_limit.specs.Limit.{limit-of, copy-back-limit}
+use Rattle.reader_slots.proofs.Cells.{getD-any, and-false}
+use Rattle.reader_slots.proofs.Kept.{SlotSame, slot-same, emptied-other}
 use Rattle.reader_floor.proofs.Least.{AtMost, floor-at-most}
 use Rattle.sequence.specs.Hold.{accepted}
 use Rattle.sequence.proofs.SlotsAside.{by-tests}

@@ -14,13 +14,13 @@ use Rattle.wal_types.specs.Memory.{Memory, Process, no-mark}
 use Rattle.wal_types.specs.Refusal.{lowest}
 use Rattle.wal_types.specs.Call.{Answer, refused, ok, slot-taken, none, Done, done, after}
 use Rattle.wal_types.proofs.Refusals.{call-accepted}
-use Rattle.readers.specs.declared.slots.Slot.{Slot}
-use Rattle.readers.specs.declared.slots.Slot.the-variants.{At as SlotAt, Nothing as NoSlot}
-use Rattle.readers.specs.Slots.{short-slots, with-local}
+use Rattle.reader_slots.specs.declared.slots.Slot.{Slot}
+use Rattle.reader_slots.specs.declared.slots.Slot.the-variants.{At as SlotAt, Nothing as NoSlot}
+use Rattle.reader_slots.specs.Slots.{short-slots, with-local}
 use Rattle.readers.specs.Register.{chosen-slot, slot-answer, hold-found, registers, register-tests, register-reader}
-use Rattle.readers.specs.Update.{releases-slot}
-use Rattle.readers.proofs.Cells.{and-true, and-false}
-use Rattle.readers.proofs.Kept.{slot-same, emptied-other}
+use Rattle.reader_moves.specs.Update.{releases-slot}
+use Rattle.reader_slots.proofs.Cells.{and-true, and-false}
+use Rattle.reader_slots.proofs.Kept.{slot-same, emptied-other}
 use Rattle.readers.proofs.Taken.{TookSlot, register-took}
 use Rattle.mark_registry.specs.declared.Record.{Record}
 use Rattle.mark_registry.specs.declared.Record.the-variants.{At, Nothing}

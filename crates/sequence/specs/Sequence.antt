@@ -16,9 +16,9 @@ use Rattle.frame_record.specs.Rollback.{rollback-frames}
 use Rattle.frame_index.specs.Find.{find-frame}
 use Rattle.frame_list.specs.Latest.{iter-latest-frames}
 use Rattle.readers.specs.Register.{register-reader}
-use Rattle.readers.specs.Update.{update-reader, unregister-reader}
+use Rattle.reader_moves.specs.Update.{update-reader, unregister-reader}
 use Rattle.reader_floor.specs.Floor.{min-active-reader-frame, has-active-db-file-reader}
-use Rattle.reader_floor.specs.Limit.{copy-back-limit}
+use Rattle.reader_limit.specs.Limit.{copy-back-limit}
 use Rattle.shared_marks.specs.Shared.{register-reader-for-snapshot, unregister-reader-for-snapshot}
 
 -- The settings that every call of a sequence is given, good or bad.

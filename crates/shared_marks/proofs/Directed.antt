@@ -6,8 +6,8 @@ use Prim.Native.Nat.{ℕ}
 use lib.ListN.{length}
 use Rattle.wal_types.specs.declared.SharedReadMark.{SharedReadMark}
 use Rattle.wal_types.specs.Call.{Call, Answer}
-use Rattle.readers.specs.Slots.{in-registry}
-use Rattle.readers.specs.Update.{MoveCall, ReleaseCall}
+use Rattle.reader_slots.specs.Slots.{in-registry}
+use Rattle.reader_moves.specs.Update.{MoveCall, ReleaseCall}
 use Rattle.shared_marks.specs.Shared.{registry-in, SharedCall}
 use Rattle.shared_marks.specs.Direct.{DirectMove}
 

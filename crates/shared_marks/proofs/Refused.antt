@@ -8,9 +8,9 @@ use lib.Dec.{eqb, ltb}
 use borrow.Author.Tests.{eq-eqb, ne-eqb, eqb-false, lt-ltb, le-ltb, ltb-false}
 use Rattle.wal_types.specs.Settings.{slots-in-limits, unused}
 use Rattle.wal_types.specs.Refusal.{Test, _if_, no-owner, unused-mark}
-use Rattle.readers.specs.Slots.{shorter}
-use Rattle.readers.specs.Inner.{slots-refusal}
-use Rattle.readers.proofs.Calls.{release-one-or-two, release-neither, Enough, enough}
+use Rattle.reader_slots.specs.Slots.{shorter}
+use Rattle.reader_slots.specs.Inner.{slots-refusal}
+use Rattle.reader_slots.proofs.Calls.{release-one-or-two, release-neither, Enough, enough}
 use Rattle.shared_marks.specs.Inner.{share-refusal}
 
 module _ (n words frames owners locals records owner mark : ℕ) where

@@ -18,17 +18,17 @@ use Rattle.wal_types.specs.Memory.{Memory, Process, no-mark}
 use Rattle.wal_types.specs.Fresh.{fresh-header}
 use Rattle.wal_types.specs.Refusal.{lowest}
 use Rattle.wal_types.specs.Call.{Answer, refused, slot-taken, none, Done, after, done}
-use Rattle.readers.specs.declared.slots.Slot.{Slot}
-use Rattle.readers.specs.declared.slots.Slot.the-variants.{At as SlotAt, Nothing as NoSlot}
+use Rattle.reader_slots.specs.declared.slots.Slot.{Slot}
+use Rattle.reader_slots.specs.declared.slots.Slot.the-variants.{At as SlotAt, Nothing as NoSlot}
 use Rattle.readers.specs.declared.register.Register.{Register}
 use Rattle.readers.specs.declared.register.Register.the-variants.{Taken, NoSlot as Turned, Refused as Denied}
 use Rattle.readers.proofs.register.Register as RegisterType
-use Rattle.readers.specs.Slots.{shorter, bad-card, slots-in, locals-in, ReaderCall}
-use Rattle.readers.specs.Register.{found-slot, available, lowest-slot, first-slot, second-slot, chosen-slot, either-slot, registers, register-tests, register-reader, reclaim-all, reclaimable, slot-answer, register-answer}
-use Rattle.readers.specs.Register.{some-slot}
-use Rattle.readers.specs.Inner.{available-by}
-use Rattle.readers.proofs.Calls.{refuses, accepts}
-use Rattle.readers.proofs.Some.{some-false}
+use Rattle.reader_slots.specs.Slots.{shorter, bad-card, slots-in, locals-in, ReaderCall}
+use Rattle.reader_slots.specs.Search.{found-slot, lowest-slot, either-slot, some-slot}
+use Rattle.readers.specs.Register.{available, first-slot, second-slot, chosen-slot, registers, register-tests, register-reader, reclaim-all, reclaimable, slot-answer, register-answer}
+use Rattle.reader_slots.specs.Inner.{available-by}
+use Rattle.reader_slots.proofs.Calls.{refuses, accepts}
+use Rattle.reader_slots.proofs.Some.{some-false}
 use Rattle.readers.proofs.Taken.{register-took}
 use Rattle.mark_registry.specs.declared.Record.{Record}
 use Rattle.mark_registry.specs.declared.Record.the-variants.{At, Nothing}

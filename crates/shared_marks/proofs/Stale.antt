@@ -17,14 +17,15 @@ use Rattle.wal_types.specs.Memory.{Memory, Process, slot-bit}
 use Rattle.wal_types.specs.Store.{apply, when}
 use Rattle.bitmap.specs.Bit.{set-bit}
 use Rattle.bitmap.proofs.Bits.{set-same}
-use Rattle.readers.specs.declared.slots.Slot.the-variants.{Nothing}
-use Rattle.readers.specs.Slots.{is-fcntl, held, is-free, granted, empty-slot, empty-slots}
-use Rattle.readers.specs.Register.{available, lowest-slot, reclaimable}
-use Rattle.readers.specs.Register.{some-slot}
-use Rattle.readers.specs.Inner.{emptied-if}
-use Rattle.readers.proofs.Calls.{apply-append}
-use Rattle.readers.proofs.Lowest.{lowest-nothing}
-use Rattle.readers.proofs.Kept.{SlotSame, slot-same, slot-same-then, emptied-other}
+use Rattle.reader_slots.specs.declared.slots.Slot.the-variants.{Nothing}
+use Rattle.wal_types.specs.Settings.{is-fcntl}
+use Rattle.reader_slots.specs.Slots.{held, is-free, granted, empty-slot, empty-slots}
+use Rattle.readers.specs.Register.{available, reclaimable}
+use Rattle.reader_slots.specs.Search.{lowest-slot, some-slot}
+use Rattle.reader_slots.specs.Inner.{emptied-if}
+use Rattle.reader_slots.proofs.Calls.{apply-append}
+use Rattle.reader_slots.proofs.Lowest.{lowest-nothing}
+use Rattle.reader_slots.proofs.Kept.{SlotSame, slot-same, slot-same-then, emptied-other}
 
 impossible : _≡_ {A = Bool} true false → ⊥
 impossible e = let z : _≡_ {A = ℕ} 0 1 = cc in omega arith

@@ -11,7 +11,7 @@ use borrow.Author.Tests.{eq-eqb, ne-eqb, le-leb, lt-leb, lt-ltb, le-ltb}
 use Rattle.wal_types.specs.declared.SharedReadMark.{SharedReadMark}
 use Rattle.wal_types.specs.declared.SharedWalOwnershipMode.{SharedWalOwnershipMode}
 use Rattle.wal_types.specs.declared.SharedWalOwnershipMode.the-variants.{LinuxOfd, ProcessScopedFcntl}
-use Rattle.wal_types.specs.Settings.{unused}
+use Rattle.wal_types.specs.Settings.{unused, is-fcntl}
 use Rattle.wal_types.specs.Memory.{Memory, Process, no-mark}
 use Rattle.wal_types.specs.Store.{apply}
 use Rattle.wal_types.specs.Refusal.{Test, _if_, lowest, slot-number, not-held, other-owner, no-owner, unused-mark, no-such-mark}

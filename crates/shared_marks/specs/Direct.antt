@@ -6,7 +6,7 @@ use Prim.Native.Nat.{ℕ}
 use Rattle.wal_types.specs.declared.SharedReadMark.{SharedReadMark}
 use Rattle.wal_types.specs.Memory.{Memory, Process}
 use Rattle.wal_types.specs.Call.{Call, Answer, after, done}
-use Rattle.readers.specs.Slots.{slots-in}
+use Rattle.reader_slots.specs.Slots.{slots-in}
 use Rattle.shared_marks.specs.Shared.{registry-in}
 
 -- The call on any memory with the slot frames f and the slot owners o in it, by any process with the registry r: it answers

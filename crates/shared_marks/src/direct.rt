@@ -5,7 +5,7 @@ use readers::update::Update;
 use wal_types::SharedOwnerRecord;
 use wal_types::SharedReadMark;
 use wal_types::SharedWalOwnershipMode;
-ghost use Rattle.readers.specs.Update.{update-reader, update-answer, unregister-reader, release-answer};
+ghost use Rattle.reader_moves.specs.Update.{update-reader, update-answer, unregister-reader, release-answer};
 ghost use Rattle.shared_marks.specs.Shared.{SharedCall};
 ghost use Rattle.shared_marks.specs.Direct.{DirectMove};
 

@@ -3,10 +3,6 @@ use mark_registry::Record;
 use mark_registry::Seen;
 use readers::register;
 use readers::register::Register;
-use readers::slots;
-use readers::slots::Slot;
-use readers::update;
-use readers::update::Release;
 use wal_types::DB_FILE_READER_FRAME;
 use wal_types::SharedOwnerRecord;
 use wal_types::SharedReadMark;
@@ -124,7 +120,7 @@ fn without_record(
     requires { ⌜ (n ≤ 256) × (((n + 63) / 64 ≤ length (now bitmap)) × ((n ≤ length (now «reader_owners»)) × ((n ≤ length (now «local_readers»)) × (n ≤ length (now card))))) ⌝ }
     ensures { λ r. ⌜ r ≡ no-record-answer n mode (now (card .entry)) (now (bitmap .entry)) (now («reader_owners» .entry)) (now («local_readers» .entry)) ⌝ }
 {
-    if let Slot::At(slot) = register::available_slot(n, bitmap, local_readers, card) {
+    if let Slot::At(slot) = available::available_slot(n, bitmap, local_readers, card) {
         return Share::Refused(13);
     }
     if some_stale(n, mode, bitmap, reader_owners, local_readers, card) {

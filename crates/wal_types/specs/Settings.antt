@@ -1,7 +1,9 @@
 -- Settings, their limits, and how many cells of each part a call is to be lent (document 01, "Settings and lent memory"). Assumes nothing.
-use mathlib.Core.Bool.{Bool, _&&_}
+use mathlib.Core.Bool.{Bool, true, false, _&&_}
 use Prim.Native.Nat.{ℕ, _+_, _-_, _*_, _/_, _^_}
 use lib.Dec.{leb}
+use Rattle.wal_types.specs.declared.SharedWalOwnershipMode.{SharedWalOwnershipMode}
+use Rattle.wal_types.specs.declared.SharedWalOwnershipMode.the-variants.{LinuxOfd, ProcessScopedFcntl}
 
 -- x is from low to high, both included
 abbrev pub within : ℕ → ℕ → ℕ → Bool
@@ -49,3 +51,8 @@ unused = 2 ^ 64 - 1
 -- 65,535, the most holders of one shared mark
 abbrev pub most-holders : ℕ
 most-holders = 65535
+
+-- whether the lock mode is ProcessScopedFcntl, "Fcntl" for short
+abbrev pub is-fcntl : SharedWalOwnershipMode → Bool
+is-fcntl LinuxOfd = false
+is-fcntl ProcessScopedFcntl = true

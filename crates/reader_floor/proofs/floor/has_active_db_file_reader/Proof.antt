@@ -1,6 +1,6 @@
 use Rattle.reader_floor.proofs.Floored.{db-file-early, db-file-late, db-file-told}
-use Rattle.reader_floor.proofs.Looked.{passed-length}
-use Rattle.readers.proofs.Calls.{enough}
+use Rattle.live_readers.proofs.Looked.{passed-length}
+use Rattle.reader_slots.proofs.Calls.{enough}
 use native.Mathlib.Omega.{arith}
 use borrow.Author.Needs.{needs}
 use Rattle.reader_floor.proofs.floor.has_active_db_file_reader.Statement.{statement}

@@ -1,5 +1,5 @@
 use Rattle.readers.proofs.Registered.{chosen-first, chosen-second}
-use Rattle.readers.proofs.Lowest.{found-below}
+use Rattle.reader_slots.proofs.Lowest.{found-below}
 use mathlib.Core.Path.{sym, _∙_}
 use borrow.Author.Needs.{needs}
 use Rattle.readers.proofs.register.chosen_slot.Statement.{statement}

@@ -1,8 +1,8 @@
 -- The loop's invariant: what is left of the reclaim, from the memory now, leaves what the whole leaves.
 use native.Mathlib.Nat.{sub-zero}
-use Rattle.readers.proofs.Emptied.{emptied, emptied-done, emptied-next, emptied-whole}
+use Rattle.reader_slots.proofs.Emptied.{emptied, emptied-done, emptied-next, emptied-whole}
 use Rattle.readers.specs.Register.{reclaimable}
-use Rattle.readers.specs.Slots.{slots-in, locals-in}
+use Rattle.reader_slots.specs.Slots.{slots-in, locals-in}
 use Rattle.wal_types.specs.Memory.{Memory, Process}
 use lib.ListN.{length}
 use Prim.Native.Nat.{_-_, _≤_}

@@ -1,6 +1,6 @@
 use Rattle.readers.proofs.Registered.{register-early, register-no-owner, register-unused-mark, register-bad-card, register-none, register-takes}
-use Rattle.readers.proofs.Calls.{enough}
-use Rattle.readers.proofs.Card.{card-length}
+use Rattle.reader_slots.proofs.Calls.{enough}
+use Rattle.reader_slots.proofs.Card.{card-length}
 use mathlib.Core.Path.{sym, _∙_}
 use native.Mathlib.Omega.{arith}
 use borrow.Author.Needs.{needs}

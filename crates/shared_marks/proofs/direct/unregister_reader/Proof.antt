@@ -47,10 +47,10 @@ use Rattle.wal_types.proofs.SharedOwnerRecord as O
 use Rattle.wal_types.proofs.SharedOwnerRecord.Laws as O′
 use Rattle.wal_types.proofs.SharedWalOwnershipMode as K
 use Rattle.wal_types.proofs.SharedWalOwnershipMode.Laws as K′
-use Rattle.readers.specs.declared.update.Release.{Release}
-use Rattle.readers.specs.Update.{unregister-reader, release-answer, ReleaseCall}
+use Rattle.reader_moves.specs.declared.update.Release.{Release}
+use Rattle.reader_moves.specs.Update.{unregister-reader, release-answer, ReleaseCall}
 use Rattle.shared_marks.specs.Shared.{SharedCall}
-use Rattle.readers.specs.Slots.{in-registry}
+use Rattle.reader_slots.specs.Slots.{in-registry}
 use Rattle.shared_marks.proofs.Directed.{released}
 use Rattle.readers.proofs.update.Release as S
 use Rattle.readers.proofs.update.Release.Laws as S′

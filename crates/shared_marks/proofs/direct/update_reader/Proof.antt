@@ -44,10 +44,10 @@ use Rattle.wal_types.specs.declared.SharedOwnerRecord.{SharedOwnerRecord}
 use Rattle.wal_types.proofs.SharedReadMark as T
 use Rattle.wal_types.proofs.SharedOwnerRecord as O
 use Rattle.wal_types.proofs.SharedOwnerRecord.Laws as O′
-use Rattle.readers.specs.declared.update.Update.{Update}
-use Rattle.readers.specs.Update.{update-reader, update-answer, MoveCall}
+use Rattle.reader_moves.specs.declared.update.Update.{Update}
+use Rattle.reader_moves.specs.Update.{update-reader, update-answer, MoveCall}
 use Rattle.shared_marks.specs.Direct.{DirectMove}
-use Rattle.readers.specs.Slots.{in-registry}
+use Rattle.reader_slots.specs.Slots.{in-registry}
 use Rattle.shared_marks.proofs.Directed.{moved}
 use Rattle.readers.proofs.update.Update as S
 use Rattle.readers.proofs.update.Update.Laws as S′

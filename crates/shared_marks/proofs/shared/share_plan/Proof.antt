@@ -1,6 +1,6 @@
 use Rattle.shared_marks.proofs.Shares.{share-refused, share-full, share-bad-card, share-kept, new-bad-card, new-taken, new-none, taken-below, new-no-record}
 use mathlib.Core.Path.{sym, _∙_}
-use Rattle.readers.proofs.Card.{card-length}
+use Rattle.reader_slots.proofs.Card.{card-length}
 use Rattle.shared_marks.proofs.Refused.{passed}
 use native.Mathlib.Omega.{arith}
 use borrow.Author.Needs.{needs}

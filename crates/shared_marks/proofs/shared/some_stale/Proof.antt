@@ -2,8 +2,8 @@ use mathlib.Core.Path.{_≡_, sym, _∙_}
 use Prim.Native.Nat.{_-_, _≤_}
 use native.Mathlib.Nat.{sub-zero}
 use Rattle.shared_marks.specs.Inner.{stale-by}
-use Rattle.readers.specs.Register.{some-slot}
-use Rattle.readers.proofs.Some.{some-here, some-next, some-done}
+use Rattle.reader_slots.specs.Search.{some-slot}
+use Rattle.reader_slots.proofs.Some.{some-here, some-next, some-done}
 use native.Mathlib.Omega.{arith}
 use borrow.Author.Needs.{needs}
 use Rattle.shared_marks.proofs.shared.some_stale.Statement.{statement}

@@ -54,8 +54,8 @@ use Rattle.wal_types.proofs.SharedWalOwnershipMode as K
 use Rattle.wal_types.proofs.SharedWalOwnershipMode.Laws as K′
 use Rattle.mark_registry.specs.declared.Seen.{Seen}
 use Rattle.shared_marks.specs.declared.shared.UnsharePlan.{UnsharePlan}
-use Rattle.readers.specs.declared.update.Release.{Release}
-use Rattle.readers.specs.Update.{release-answer}
+use Rattle.reader_moves.specs.declared.update.Release.{Release}
+use Rattle.reader_moves.specs.Update.{release-answer}
 use Rattle.shared_marks.specs.Shared.{unregister-reader-for-snapshot, SharedCall}
 use Rattle.mark_registry.specs.Scan.{seen-of}
 use Rattle.shared_marks.specs.Inner.{PlanCall}

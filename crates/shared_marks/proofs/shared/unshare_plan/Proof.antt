@@ -1,4 +1,4 @@
-use Rattle.readers.proofs.Calls.{enough}
+use Rattle.reader_slots.proofs.Calls.{enough}
 use Rattle.shared_marks.proofs.Unshares.{unshare-early, unshare-short, unshare-slot-number, unshare-absent, unshare-other-slot, unshare-other-owner, unshare-kept-refused, unshare-kept, unshare-last-refused, unshare-last-mark, unshare-last}
 use native.Mathlib.Omega.{arith}
 use borrow.Author.Needs.{needs}

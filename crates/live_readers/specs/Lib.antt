@@ -1,0 +1,3 @@
+-- Live and dead slots, and failed probes.
+pub mod Live
+pub mod Inner

@@ -1,0 +1,3 @@
+// Which slots have a live reader, and the refusals of calls that probe slots.
+pub mod live;
+pub mod probe;

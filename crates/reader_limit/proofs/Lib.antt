@@ -1,0 +1,2 @@
+-- The limit, by the floor.
+pub mod Limited

@@ -1,0 +1,2 @@
+// The copy-back limit.
+pub mod limit;

@@ -1,0 +1,2 @@
+-- update_reader and unregister_reader.
+pub mod Update

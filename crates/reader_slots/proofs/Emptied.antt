@@ -1,0 +1,51 @@
+-- The stores that empty slots, as lists: the memory after them. Assumes nothing.
+use mathlib.Core.Path.{_≡_, refl, sym, _∙_}
+use mathlib.Core.Bool.{Bool}
+use mathlib.Core.List.{List}
+use Prim.Native.Nat.{ℕ, suc, _+_, _/_, _%_}
+use lib.ListN.{getD, set}
+use Rattle.wal_types.specs.declared.SharedWalOwnershipMode.{SharedWalOwnershipMode}
+use Rattle.wal_types.specs.declared.SharedWalOwnershipMode.the-variants.{LinuxOfd, ProcessScopedFcntl}
+use Rattle.wal_types.specs.Settings.{unused}
+use Rattle.wal_types.specs.Memory.{Memory}
+use Rattle.wal_types.specs.Store.{apply, when}
+use Rattle.bitmap.specs.Bit.{set-bit, clear-bit}
+use Rattle.reader_slots.specs.Slots.{take-slot, empty-slot, empty-slots, slots-in}
+use Rattle.reader_slots.specs.Inner.{emptied-if}
+use Rattle.reader_slots.proofs.Calls.{apply-append}
+
+-- the bitmap with slot i's bit 1, and 0
+abbrev pub bit-freed : List ℕ → ℕ → List ℕ
+bit-freed b i = set b (i / 64) (set-bit (getD b (i / 64) 0) (i % 64))
+
+abbrev pub bit-taken : List ℕ → ℕ → List ℕ
+bit-taken b i = set b (i / 64) (clear-bit (getD b (i / 64) 0) (i % 64))
+
+-- a slot emptied: the same in both modes
+pub emptied-slot : (mode : SharedWalOwnershipMode) (z : Memory) (b f o : List ℕ) (i : ℕ) → apply (empty-slot mode i (slots-in z b f o)) (slots-in z b f o) ≡ slots-in z (bit-freed b i) (set f i unused) (set o i 0)
+emptied-slot LinuxOfd z b f o i = refl
+emptied-slot ProcessScopedFcntl z b f o i = refl
+
+-- a slot taken
+pub taken-slot : (z : Memory) (b f o : List ℕ) (i owner mark : ℕ) → apply (take-slot i owner mark (slots-in z b f o)) (slots-in z b f o) ≡ slots-in z (bit-taken b i) (set f i mark) (set o i owner)
+taken-slot z b f o i owner mark = refl
+
+-- the memory after all slots that the test picks are emptied, of so many from this one on
+unfoldable pub emptied : SharedWalOwnershipMode → (Memory → ℕ → Bool) → ℕ → ℕ → Memory → Memory
+emptied mode test left i m = apply (empty-slots mode test left i m) m
+
+module _ (mode : SharedWalOwnershipMode) (test : Memory → ℕ → Bool) (left i : ℕ) (m whole : Memory) (so-far : emptied mode test left i m ≡ whole) where
+  -- no slot is left
+  pub emptied-done : left ≡ 0 → m ≡ whole
+  unfolding emptied empty-slots
+  emptied-done e = rw e at so-far
+
+  -- one slot more
+  pub emptied-next : (less : ℕ) → left ≡ suc less → (m′ : Memory) → m′ ≡ emptied-if mode (test m i) i m → emptied mode test less (i + 1) m′ ≡ whole
+  unfolding emptied empty-slots
+  emptied-next less e m′ f =
+      rw f (sym (apply-append (when (test m i) (empty-slot mode i) m) (empty-slots mode test less (i + 1) (emptied-if mode (test m i) i m)) m) ∙ (rw e at so-far))
+
+pub emptied-whole : (mode : SharedWalOwnershipMode) (test : Memory → ℕ → Bool) (left i : ℕ) (m : Memory) → emptied mode test left i m ≡ apply (empty-slots mode test left i m) m
+unfolding emptied
+emptied-whole mode test left i m = refl

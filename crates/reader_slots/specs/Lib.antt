@@ -1,0 +1,4 @@
+-- What all calls on reader slots share.
+pub mod Slots
+pub mod Search
+pub mod Inner
