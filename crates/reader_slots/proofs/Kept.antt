@@ -13,7 +13,7 @@ use Rattle.wal_types.specs.Settings.{unused}
 use Rattle.wal_types.specs.Memory.{Memory, bit-at, slot-bit}
 use Rattle.wal_types.specs.Store.{apply, when}
 use Rattle.bitmap.specs.Bit.{set-bit, clear-bit}
-use Rattle.bitmap.proofs.Bits.{set-other, clear-other}
+use Rattle.bitmap.proofs.Bits.{set-same, set-other, clear-other}
 use Rattle.reader_slots.specs.Slots.{take-slot, empty-slot, empty-slots}
 use Rattle.reader_slots.specs.Inner.{emptied-if}
 use Rattle.reader_slots.proofs.Calls.{apply-append}
@@ -78,3 +78,22 @@ module _ (mode : SharedWalOwnershipMode) (test : Memory → ℕ → Bool) (j : �
   emptied-keeps (suc left) i m =
       rw (apply-append (when (test m i) (empty-slot mode i) m) (empty-slots mode test left (i + 1) (emptied-if mode (test m i) i m)) m)
       (slot-same-then j m (emptied-if mode (test m i) i m) (apply (empty-slots mode test left (i + 1) (emptied-if mode (test m i) i m)) (emptied-if mode (test m i) i m)) (emptied-if-keeps (test m i) i m refl) (emptied-keeps left (i + 1) (emptied-if mode (test m i) i m)))
+
+-- another slot than i, whether slot i is emptied or not
+pub other-turn : (mode : SharedWalOwnershipMode) (t : Bool) (i j : ℕ) (m : Memory) → (j ≡ i → ⊥) → SlotSame j m (emptied-if mode t i m)
+other-turn mode true i j m f = emptied-other mode i j m f
+other-turn mode false i j m f = slot-same j m
+
+-- a pass from slot i on leaves the slots before it
+pub passed-keeps : (mode : SharedWalOwnershipMode) (test : Memory → ℕ → Bool) (left i j : ℕ) (m : Memory) → j < i → SlotSame j m (apply (empty-slots mode test left i m) m)
+unfolding empty-slots
+passed-keeps mode test zero i j m l = slot-same j m
+passed-keeps mode test (suc left) i j m l =
+    let x = emptied-if mode (test m i) i m in
+    rw (apply-append (when (test m i) (empty-slot mode i) m) (empty-slots mode test left (i + 1) x) m)
+    (slot-same-then j m x (apply (empty-slots mode test left (i + 1) x) x) (other-turn mode (test m i) i j m (λ e. omega arith)) (passed-keeps mode test left (i + 1) j x (omega arith)))
+
+-- a slot that is emptied is free
+pub freed-bit : (mode : SharedWalOwnershipMode) (i : ℕ) (m : Memory) → i / 64 < length (m .bitmap) → slot-bit (apply (empty-slot mode i m) m .bitmap) i ≡ 1
+freed-bit LinuxOfd i m l = rw (getD-set-same (m .bitmap) (i / 64) (set-bit (getD (m .bitmap) (i / 64) 0) (i % 64)) 0 l) (set-same (i % 64) (getD (m .bitmap) (i / 64) 0))
+freed-bit ProcessScopedFcntl i m l = rw (getD-set-same (m .bitmap) (i / 64) (set-bit (getD (m .bitmap) (i / 64) 0) (i % 64)) 0 l) (set-same (i % 64) (getD (m .bitmap) (i / 64) 0))

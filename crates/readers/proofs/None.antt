@@ -2,52 +2,29 @@
 use mathlib.Core.Path.{_≡_, refl, sym, ap, _∙_, subst}
 use mathlib.Core.Bool.{Bool, true, false, not, _&&_}
 use mathlib.Core.List.{List, []}
-use Prim.Native.Nat.{ℕ, zero, suc, _+_, _/_, _%_, _<_, _≤_}
+use Prim.Native.Nat.{ℕ, zero, suc, _+_, _/_, _<_, _≤_}
 use native.Mathlib.Decide.{ℕ-discrete}
 use native.Mathlib.Omega.{arith}
 use lib.Dec.{eqb}
 use lib.ListN.{length, getD}
-use lib.Seq.{getD-set-same}
 use borrow.Author.Tests.{eq-eqb}
 use Rattle.wal_types.specs.declared.SharedWalOwnershipMode.{SharedWalOwnershipMode}
-use Rattle.wal_types.specs.declared.SharedWalOwnershipMode.the-variants.{LinuxOfd, ProcessScopedFcntl}
 use Rattle.wal_types.specs.Memory.{Memory, Process, slot-bit}
 use Rattle.wal_types.specs.Store.{Piece, apply, when, _then_}
 use Rattle.wal_types.specs.Call.{none, Done, after, done}
-use Rattle.bitmap.specs.Bit.{set-bit}
-use Rattle.bitmap.proofs.Bits.{set-same}
 use Rattle.reader_slots.specs.declared.slots.Slot.{Slot}
 use Rattle.reader_slots.specs.declared.slots.Slot.the-variants.{At, Nothing}
 use Rattle.wal_types.specs.Settings.{is-fcntl}
 use Rattle.reader_slots.specs.Slots.{held, is-free, granted, empty-slot, empty-slots}
-use Rattle.reader_slots.specs.Inner.{emptied-if}
 use Rattle.readers.specs.Register.{available, take-found, slot-answer, hold-found, first-slot, second-slot, chosen-slot, reclaimable, reclaim-all, reclaim-unless, register-reader}
 use Rattle.reader_slots.specs.Search.{either-slot}
 use Rattle.reader_slots.proofs.Calls.{apply-append}
 use Rattle.reader_slots.proofs.Lowest.{lowest-nothing}
-use Rattle.reader_slots.proofs.Kept.{SlotSame, slot-same, slot-same-then, emptied-other}
+use Rattle.reader_slots.proofs.Kept.{passed-keeps, freed-bit}
 use Rattle.readers.proofs.Taken.{number-given, register-refused, register-accepted, room}
 
--- a pass from slot i on leaves the slots before it
-passed-turn : (mode : SharedWalOwnershipMode) (t : Bool) (i j : ℕ) (m : Memory) → j < i → SlotSame j m (emptied-if mode t i m)
-passed-turn mode true i j m l = emptied-other mode i j m (λ e. omega arith)
-passed-turn mode false i j m l = slot-same j m
-
-passed-keeps : (mode : SharedWalOwnershipMode) (test : Memory → ℕ → Bool) (left i j : ℕ) (m : Memory) → j < i → SlotSame j m (apply (empty-slots mode test left i m) m)
-unfolding empty-slots
-passed-keeps mode test zero i j m l = slot-same j m
-passed-keeps mode test (suc left) i j m l =
-    let x = emptied-if mode (test m i) i m in
-    rw (apply-append (when (test m i) (empty-slot mode i) m) (empty-slots mode test left (i + 1) x) m)
-    (slot-same-then j m x (apply (empty-slots mode test left (i + 1) x) x) (passed-turn mode (test m i) i j m l) (passed-keeps mode test left (i + 1) j x (omega arith)))
-
--- a slot that is emptied is free
-freed-bit : (mode : SharedWalOwnershipMode) (i : ℕ) (m : Memory) → i / 64 < length (m .bitmap) → slot-bit (apply (empty-slot mode i m) m .bitmap) i ≡ 1
-freed-bit LinuxOfd i m l = rw (getD-set-same (m .bitmap) (i / 64) (set-bit (getD (m .bitmap) (i / 64) 0) (i % 64)) 0 l) (set-same (i % 64) (getD (m .bitmap) (i / 64) 0))
-freed-bit ProcessScopedFcntl i m l = rw (getD-set-same (m .bitmap) (i / 64) (set-bit (getD (m .bitmap) (i / 64) 0) (i % 64)) 0 l) (set-same (i % 64) (getD (m .bitmap) (i / 64) 0))
-
 -- a stale slot, once free, can be taken
-stale-then-free : (f h g w f′ : Bool) → (not f && not h && g && w) ≡ true → f′ ≡ true → (not h && f′ && g) ≡ true
+pub stale-then-free : (f h g w f′ : Bool) → (not f && not h && g && w) ≡ true → f′ ≡ true → (not h && f′ && g) ≡ true
 stale-then-free false false true w f′ e q = rw q
 stale-then-free true h g w f′ e q = let z : _≡_ {A = Bool} false true = e in let y : _≡_ {A = ℕ} 0 1 = cc in absurd (omega arith)
 stale-then-free false true g w f′ e q = let z : _≡_ {A = Bool} false true = e in let y : _≡_ {A = ℕ} 0 1 = cc in absurd (omega arith)

@@ -1,2 +1,2 @@
-// Reader slots: a reader's mark in a numbered slot of the shared memory, held by a byte lock.
+// A reader that takes a slot.
 pub mod register;

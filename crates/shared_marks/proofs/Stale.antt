@@ -4,19 +4,16 @@ use mathlib.Core.Path.{_≡_, refl, sym, _∙_}
 use mathlib.Core.Bool.{Bool, true, false, not, _&&_, _||_}
 use mathlib.Core.List.{List, []}
 use mathlib.Core.Logic.{inl, inr}
-use Prim.Native.Nat.{ℕ, zero, suc, _+_, _/_, _%_, _<_, _≤_}
+use Prim.Native.Nat.{ℕ, zero, suc, _+_, _/_, _<_, _≤_}
 use native.Mathlib.Nat.{eq-or-lt-of-le}
 use native.Mathlib.Omega.{arith}
 use lib.Dec.{eqb}
 use lib.ListN.{length, getD, length-set}
-use lib.Seq.{getD-set-same}
 use borrow.Author.Tests.{eq-eqb}
 use Rattle.wal_types.specs.declared.SharedWalOwnershipMode.{SharedWalOwnershipMode}
 use Rattle.wal_types.specs.declared.SharedWalOwnershipMode.the-variants.{LinuxOfd, ProcessScopedFcntl}
 use Rattle.wal_types.specs.Memory.{Memory, Process, slot-bit}
 use Rattle.wal_types.specs.Store.{apply, when}
-use Rattle.bitmap.specs.Bit.{set-bit}
-use Rattle.bitmap.proofs.Bits.{set-same}
 use Rattle.reader_slots.specs.declared.slots.Slot.the-variants.{Nothing}
 use Rattle.wal_types.specs.Settings.{is-fcntl}
 use Rattle.reader_slots.specs.Slots.{held, is-free, granted, empty-slot, empty-slots}
@@ -25,33 +22,16 @@ use Rattle.reader_slots.specs.Search.{lowest-slot, some-slot}
 use Rattle.reader_slots.specs.Inner.{emptied-if}
 use Rattle.reader_slots.proofs.Calls.{apply-append}
 use Rattle.reader_slots.proofs.Lowest.{lowest-nothing}
-use Rattle.reader_slots.proofs.Kept.{SlotSame, slot-same, slot-same-then, emptied-other}
+use Rattle.reader_slots.proofs.Kept.{SlotSame, other-turn, passed-keeps, freed-bit}
+use Rattle.readers.proofs.None.{stale-then-free}
 
 impossible : _≡_ {A = Bool} true false → ⊥
 impossible e = let z : _≡_ {A = ℕ} 0 1 = cc in omega arith
-
--- a slot that is emptied is free
-freed-bit : (mode : SharedWalOwnershipMode) (i : ℕ) (m : Memory) → i / 64 < length (m .bitmap) → slot-bit (apply (empty-slot mode i m) m .bitmap) i ≡ 1
-freed-bit LinuxOfd i m l = rw (getD-set-same (m .bitmap) (i / 64) (set-bit (getD (m .bitmap) (i / 64) 0) (i % 64)) 0 l) (set-same (i % 64) (getD (m .bitmap) (i / 64) 0))
-freed-bit ProcessScopedFcntl i m l = rw (getD-set-same (m .bitmap) (i / 64) (set-bit (getD (m .bitmap) (i / 64) 0) (i % 64)) 0 l) (set-same (i % 64) (getD (m .bitmap) (i / 64) 0))
 
 words-kept : (mode : SharedWalOwnershipMode) (t : Bool) (i : ℕ) (m : Memory) → length (emptied-if mode t i m .bitmap) ≡ length (m .bitmap)
 words-kept LinuxOfd true i m = simp length-set
 words-kept ProcessScopedFcntl true i m = simp length-set
 words-kept mode false i m = refl
-
-other-turn : (mode : SharedWalOwnershipMode) (t : Bool) (i j : ℕ) (m : Memory) → (j ≡ i → ⊥) → SlotSame j m (emptied-if mode t i m)
-other-turn mode true i j m f = emptied-other mode i j m f
-other-turn mode false i j m f = slot-same j m
-
--- a pass from slot i on leaves the slots before it
-passed-keeps : (mode : SharedWalOwnershipMode) (test : Memory → ℕ → Bool) (left i j : ℕ) (m : Memory) → j < i → SlotSame j m (apply (empty-slots mode test left i m) m)
-unfolding empty-slots
-passed-keeps mode test zero i j m l = slot-same j m
-passed-keeps mode test (suc left) i j m l =
-    let x = emptied-if mode (test m i) i m in
-    rw (apply-append (when (test m i) (empty-slot mode i) m) (empty-slots mode test left (i + 1) x) m)
-    (slot-same-then j m x (apply (empty-slots mode test left (i + 1) x) x) (other-turn mode (test m i) i j m (λ e. omega arith)) (passed-keeps mode test left (i + 1) j x (omega arith)))
 
 module _ (mode : SharedWalOwnershipMode) (bytes : List ℕ) (p : Process) where
   abbrev stale : Memory → ℕ → Bool
@@ -77,18 +57,12 @@ module _ (mode : SharedWalOwnershipMode) (bytes : List ℕ) (p : Process) where
         | inr q ↦ stale-freed left (i + 1) j x (omega arith) (omega arith) (stale-same j m x (other-turn mode (stale m i) i j m (λ r. omega arith)) ∙ e) (let z = words-kept mode (stale m i) i m in omega arith)
       ])
 
-  free-available : (f h g w f′ : Bool) → (not f && not h && g && w) ≡ true → f′ ≡ true → (not h && f′ && g) ≡ true
-  free-available false false true w f′ e q = rw q
-  free-available true h g w f′ e q = let z : _≡_ {A = Bool} false true = e in absurd (impossible (sym z))
-  free-available false true g w f′ e q = let z : _≡_ {A = Bool} false true = e in absurd (impossible (sym z))
-  free-available false false false w f′ e q = let z : _≡_ {A = Bool} false true = e in absurd (impossible (sym z))
-
   -- where no slot can be taken after the pass, none was stale
   pub none-stale : (n : ℕ) (m : Memory) → ((j : ℕ) → j < n → j / 64 < length (m .bitmap)) → lowest-slot (available bytes p (apply (empty-slots mode stale n 0 m) m)) n 0 ≡ Nothing → (j : ℕ) → j < n → stale m j ≡ true → ⊥
   none-stale n m w e j l s =
       let y = apply (empty-slots mode stale n 0 m) m in
       let free = eq-eqb (slot-bit (y .bitmap) j) 1 (stale-freed n 0 j m (omega arith) (omega arith) s (w j l)) in
-      let could = free-available (is-free m j) (held p j) (granted bytes j) (not (is-fcntl mode && eqb (getD (m .reader-owners) j 0) 0)) (is-free y j) s free in
+      let could = stale-then-free (is-free m j) (held p j) (granted bytes j) (not (is-fcntl mode && eqb (getD (m .reader-owners) j 0) 0)) (is-free y j) s free in
       impossible (sym could ∙ lowest-nothing (available bytes p y) n 0 e j (omega arith) (omega arith))
 
   -- where none is stale, the pass stores nothing
