@@ -10,14 +10,14 @@ use lib.Dec.{T, eqb}
 use lib.ListN.{length, getD}
 use Rattle.wal_types.specs.declared.SharedReadMark.{SharedReadMark}
 use Rattle.wal_types.specs.Memory.{no-mark}
-use Rattle.readers.specs.Slots.{in-registry}
+use Rattle.reader_slots.specs.Slots.{in-registry}
 use Rattle.mark_registry.specs.declared.Record.{Record}
 use Rattle.mark_registry.specs.declared.Record.the-variants.{At, Nothing}
 use Rattle.mark_registry.specs.declared.Wanted.{Wanted}
 use Rattle.mark_registry.specs.declared.Wanted.the-variants.{Mark, Slot, Empty}
 use Rattle.mark_registry.specs.declared.Found.{Found}
 use Rattle.mark_registry.specs.Registry.{first-record, record-of, empty-record, is-empty}
-use Rattle.mark_registry.specs.Scan.{picks, none-picked, nothing-found, found-here, found-at, found-of, is-found, seen-alone, seen-with, empty-unless, item-at, seen-of}
+use Rattle.mark_registry.specs.Scan.{picks, none-picked, stop-at, nothing-found, found-here, found-at, found-of, is-found, seen-alone, seen-with, empty-unless, item-at, seen-of}
 
 -- the first record found, with one record more at the end
 abbrev first-of : Record → Bool → ℕ → Record
@@ -61,60 +61,73 @@ first-kept : (r : Record) (i : ℕ) → first-of r false i ≡ r
 first-kept (At k) i = refl
 first-kept Nothing i = refl
 
--- a scan for what the test picks, among so many records
+-- a scan for what the test picks, among so many records: where it is to stop, after i of them
 module _ (test : SharedReadMark → Bool) (registry : List SharedReadMark) (end : ℕ) where
-  abbrev scan : ℕ → Found
-  scan i = found-of test registry end i
+  abbrev scan : ℕ → ℕ
+  scan i = stop-at end (first-record test registry i 0)
 
-  pub found-zero : nothing-found end ≡ scan 0
-  unfolding found-of first-record
-  found-zero = refl
+  pub stop-zero : end ≡ scan 0
+  unfolding first-record
+  stop-zero = refl
 
-  pub found-next : (i : ℕ) → i < scan i .stop → cond (test (getD registry i no-mark)) (found-here i (getD registry i no-mark)) (scan i) ≡ scan (i + 1)
-  unfolding found-of
-  found-next i less = go (first-record test registry i 0) refl less ∙ ap (found-at registry end) (record-more test registry i)
+  pub stop-next : (i : ℕ) → i < scan i → cond (test (getD registry i no-mark)) i (scan i) ≡ scan (i + 1)
+  stop-next i less = go (first-record test registry i 0) refl less ∙ ap (stop-at end) (record-more test registry i)
     where
-      by-test : (t : Bool) → cond t (found-here i (getD registry i no-mark)) (nothing-found end) ≡ found-at registry end (cond t (At i) Nothing)
+      by-test : (t : Bool) → cond t i end ≡ stop-at end (cond t (At i) Nothing)
       by-test true = refl
       by-test false = refl
 
-      go : (r : Record) → first-record test registry i 0 ≡ r → i < found-at registry end r .stop →
-          cond (test (getD registry i no-mark)) (found-here i (getD registry i no-mark)) (found-at registry end r) ≡ found-at registry end (first-of r (test (getD registry i no-mark)) i)
+      go : (r : Record) → first-record test registry i 0 ≡ r → i < stop-at end r → cond (test (getD registry i no-mark)) i (stop-at end r) ≡ stop-at end (first-of r (test (getD registry i no-mark)) i)
       go (At k) e l = let z = below test registry i 0 k e in absurd (omega arith)
       go Nothing e l = by-test (test (getD registry i no-mark))
 
   unpicked : (i : ℕ) → test (getD registry i no-mark) ≡ false → first-record test registry i 0 ≡ first-record test registry (i + 1) 0
   unpicked i x = let z = record-more test registry i in sym (first-kept (first-record test registry i 0) i) ∙ (rw x at z)
 
-  pub found-four : (i : ℕ) → test (getD registry i no-mark) ≡ false → test (getD registry (i + 1) no-mark) ≡ false → test (getD registry (i + 2) no-mark) ≡ false → test (getD registry (i + 3) no-mark) ≡ false → scan i ≡ scan (i + 4)
-  unfolding found-of
-  found-four i a b c d =
+  pub stop-four : (i : ℕ) → test (getD registry i no-mark) ≡ false → test (getD registry (i + 1) no-mark) ≡ false → test (getD registry (i + 2) no-mark) ≡ false → test (getD registry (i + 3) no-mark) ≡ false → scan i ≡ scan (i + 4)
+  stop-four i a b c d =
       let e : i + 1 + 1 ≡ i + 2 = omega arith in
       let f : i + 2 + 1 ≡ i + 3 = omega arith in
       let g : i + 3 + 1 ≡ i + 4 = omega arith in
       let y = unpicked (i + 1) b in
       let z = unpicked (i + 2) c in
       let w = unpicked (i + 3) d in
-      ap (found-at registry end) (unpicked i a ∙ ((rw e at y) ∙ ((rw f at z) ∙ (rw g at w))))
+      ap (stop-at end) (unpicked i a ∙ ((rw e at y) ∙ ((rw f at z) ∙ (rw g at w))))
 
-  pub stop-within : (i : ℕ) → i ≤ end → scan i .stop ≤ end
-  unfolding found-of
+  pub stop-within : (i : ℕ) → i ≤ end → scan i ≤ end
   stop-within i l = go (first-record test registry i 0) refl
     where
-      go : (r : Record) → first-record test registry i 0 ≡ r → found-at registry end r .stop ≤ end
+      go : (r : Record) → first-record test registry i 0 ≡ r → stop-at end r ≤ end
       go (At k) e = let z = below test registry i 0 k e in omega arith
       go Nothing e = omega arith
 
-  pub found-end : (i : ℕ) → i ≤ end → scan i .stop ≤ i → scan i ≡ scan end
-  unfolding found-of
-  found-end i within over = go (first-record test registry i 0) refl over
+  -- where the scan is over
+  over-all : (i : ℕ) → i ≤ end → scan i ≤ i → first-record test registry i 0 ≡ first-record test registry end 0
+  over-all i within over = go (first-record test registry i 0) refl over
     where
-      go : (r : Record) → first-record test registry i 0 ≡ r → found-at registry end r .stop ≤ i → found-at registry end (first-record test registry i 0) ≡ found-at registry end (first-record test registry end 0)
+      go : (r : Record) → first-record test registry i 0 ≡ r → stop-at end r ≤ i → first-record test registry i 0 ≡ first-record test registry end 0
       go (At k) e l =
           let z : i + (end - i) ≡ end = omega arith in
           let y = stays test registry i k (end - i) e in
-          ap (found-at registry end) (e ∙ sym (rw z at y))
+          e ∙ sym (rw z at y)
       go Nothing e l = let z : i ≡ end = omega arith in rw z
+
+  module _ (i : ℕ) (within : i ≤ end) (over : scan i ≤ i) where
+    pub found-there : scan i < end → found-here (scan i) (getD registry (scan i) no-mark) ≡ found-of test registry end
+    unfolding found-of
+    found-there less = go (first-record test registry i 0) less ∙ ap (found-at registry) (over-all i within over)
+      where
+        go : (r : Record) → stop-at end r < end → found-here (stop-at end r) (getD registry (stop-at end r) no-mark) ≡ found-at registry r
+        go (At k) l = refl
+        go Nothing l = absurd (omega arith)
+
+    pub found-nothing : end ≤ scan i → nothing-found ≡ found-of test registry end
+    unfolding found-of
+    found-nothing l = go (first-record test registry i 0) refl l ∙ ap (found-at registry) (over-all i within over)
+      where
+        go : (r : Record) → first-record test registry i 0 ≡ r → end ≤ stop-at end r → nothing-found ≡ found-at registry r
+        go (At k) e h = let z = below test registry i 0 k e in absurd (omega arith)
+        go Nothing e h = refl
 
 -- four records, none of which is wanted
 module _ (a b c d : SharedReadMark) where
@@ -165,32 +178,32 @@ shared-all registry slot (suc n) = go (shared-all registry slot n) (decLe (suc n
     go ih (no f) = let e : min (suc n) (length registry) ≡ min n (length registry) = omega arith in rw e (ih ∙ sym (past-end registry slot n (omega arith)))
 
 -- what a scan has found
-place-of : (registry : List SharedReadMark) (end : ℕ) (r : Record) → found-at registry end r .place ≡ r
-place-of registry end (At k) = refl
-place-of registry end Nothing = refl
+place-of : (registry : List SharedReadMark) (r : Record) → found-at registry r .place ≡ r
+place-of registry (At k) = refl
+place-of registry Nothing = refl
 
-item-of : (registry : List SharedReadMark) (end : ℕ) (r : Record) → found-at registry end r .item ≡ item-at registry r
-item-of registry end (At k) = refl
-item-of registry end Nothing = refl
+item-of : (registry : List SharedReadMark) (r : Record) → found-at registry r .item ≡ item-at registry r
+item-of registry (At k) = refl
+item-of registry Nothing = refl
 
-pub shared-found : (registry : List SharedReadMark) (n slot : ℕ) (found : Found) → found ≡ found-of (picks (Slot slot)) registry (min n (length registry)) (min n (length registry)) → is-found (found .place) ≡ in-registry n registry slot
+pub shared-found : (registry : List SharedReadMark) (n slot : ℕ) (found : Found) → found ≡ found-of (picks (Slot slot)) registry (min n (length registry)) → is-found (found .place) ≡ in-registry n registry slot
 unfolding found-of
 shared-found registry n slot found e =
-    rw (e, place-of registry (min n (length registry)) (first-record (picks (Slot slot)) registry (min n (length registry)) 0))
+    rw (e, place-of registry (first-record (picks (Slot slot)) registry (min n (length registry)) 0))
     (shared-among registry slot (min n (length registry)) ∙ shared-all registry slot n)
 
 -- both scans together, or the first alone
-module _ (registry : List SharedReadMark) (n mark : ℕ) (found : Found) (e : found ≡ found-of (picks (Mark mark)) registry n n) where
+module _ (registry : List SharedReadMark) (n mark : ℕ) (found : Found) (e : found ≡ found-of (picks (Mark mark)) registry n) where
   abbrev place : Record
   place = record-of n registry mark
 
   its-place : found .place ≡ place
   unfolding found-of picks
-  its-place = rw (e, place-of registry n place)
+  its-place = rw (e, place-of registry place)
 
   its-item : found .item ≡ item-at registry place
   unfolding found-of picks
-  its-item = rw (e, item-of registry n place)
+  its-item = rw (e, item-of registry place)
 
   pub alone-seen : (t : Bool) → t ≡ is-found (found .place) → T t → seen-alone found ≡ seen-of n registry mark
   unfolding seen-of
@@ -200,10 +213,10 @@ module _ (registry : List SharedReadMark) (n mark : ℕ) (found : Found) (e : fo
       is-at (At i) h = refl
       is-at Nothing h = absurd h
 
-  pub both-seen : (t : Bool) → t ≡ is-found (found .place) → T (not t) → (free : Found) → free ≡ found-of (picks Empty) registry n n → seen-with found free ≡ seen-of n registry mark
+  pub both-seen : (t : Bool) → t ≡ is-found (found .place) → T (not t) → (free : Found) → free ≡ found-of (picks Empty) registry n → seen-with found free ≡ seen-of n registry mark
   unfolding seen-of found-of picks
   both-seen t q y free f =
-      rw (its-item, its-place, f, place-of registry n (empty-record n registry))
+      rw (its-item, its-place, f, place-of registry (empty-record n registry))
       (rw (sym (is-not place (subst (λ (u : Bool). T (not u)) (q ∙ ap is-found its-place) y))))
     where
       is-not : (r : Record) → T (not (is-found r)) → empty-unless r n registry ≡ empty-record n registry

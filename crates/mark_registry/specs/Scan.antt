@@ -28,20 +28,24 @@ wants-use Empty = false
 unfoldable pub none-picked : Wanted → SharedReadMark → SharedReadMark → SharedReadMark → SharedReadMark → Bool
 none-picked wanted a b c d = not (picks wanted a || picks wanted b || picks wanted c || picks wanted d)
 
--- What a scan for the first record that the test picks has found: before the first record, at a record that is wanted, and
--- after i records. It ends at the record found or else at `end`.
-abbrev pub nothing-found : ℕ → Found
-nothing-found end = record { stop = end; place = Nothing; item = no-mark }
+-- where a scan of so many records stops: at the record found, or else at their end
+abbrev pub stop-at : ℕ → Record → ℕ
+stop-at end (At i) = i
+stop-at end Nothing = end
+
+-- what it finds: the first of so many records that the test picks
+abbrev pub nothing-found : Found
+nothing-found = record { place = Nothing; item = no-mark }
 
 abbrev pub found-here : ℕ → SharedReadMark → Found
-found-here i r = record { stop = i; place = At i; item = r }
+found-here i r = record { place = At i; item = r }
 
-abbrev pub found-at : List SharedReadMark → ℕ → Record → Found
-found-at registry end (At i) = found-here i (getD registry i no-mark)
-found-at registry end Nothing = nothing-found end
+abbrev pub found-at : List SharedReadMark → Record → Found
+found-at registry (At i) = found-here i (getD registry i no-mark)
+found-at registry Nothing = nothing-found
 
-unfoldable pub found-of : (SharedReadMark → Bool) → List SharedReadMark → ℕ → ℕ → Found
-found-of test registry end i = found-at registry end (first-record test registry i 0)
+unfoldable pub found-of : (SharedReadMark → Bool) → List SharedReadMark → ℕ → Found
+found-of test registry n = found-at registry (first-record test registry n 0)
 
 abbrev pub is-found : Record → Bool
 is-found (At i) = true

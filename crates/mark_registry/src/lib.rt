@@ -5,7 +5,7 @@ ghost use mathlib.Core.Path.{_≡_};
 ghost use mathlib.Core.Bool.{_&&_, cond};
 ghost use Prim.Native.Nat.{min};
 ghost use lib.ListN.{length, set};
-ghost use Rattle.readers.specs.Slots.{in-registry};
+ghost use Rattle.reader_slots.specs.Slots.{in-registry};
 ghost use Rattle.mark_registry.specs.declared.Wanted.the-variants.{Mark, Slot, Empty};
 ghost use Rattle.mark_registry.specs.Registry.{is-empty};
 ghost use Rattle.mark_registry.specs.Scan.{picks, wants-use, none-picked, nothing-found, found-here, found-of, is-found, seen-alone, seen-with, seen-of};
@@ -23,9 +23,8 @@ pub enum Wanted {
     Empty,
 }
 
-// What a scan has found: the first record that is wanted, and its contents. It stops at stop.
+// What a scan has found: the first record that is wanted, and its contents.
 pub struct Found {
-    pub stop: usize,
     pub place: Record,
     pub item: SharedReadMark,
 }
@@ -98,11 +97,10 @@ fn none_wanted(
     !is_wanted(d, wanted)
 }
 
-fn nothing_found(end: usize) -> Found
-    ensures { λ r. ⌜ r ≡ nothing-found end ⌝ }
+fn nothing_found() -> Found
+    ensures { λ r. ⌜ r ≡ nothing-found ⌝ }
 {
     Found {
-        stop: end,
         place: Record::Nothing,
         item: SharedReadMark {
             mark: 0,
@@ -113,31 +111,36 @@ fn nothing_found(end: usize) -> Found
     }
 }
 
-// One record more.
-fn see(found: Found, i: usize, m: SharedReadMark, wanted: Wanted) -> Found
-    ensures { λ r. ⌜ r ≡ cond (picks wanted m) (found-here i m) found ⌝ }
+fn found_here(i: usize, m: SharedReadMark) -> Found
+    ensures { λ r. ⌜ r ≡ found-here i m ⌝ }
+{
+    let here = Record::At(i);
+    Found {
+        place: here,
+        item: m,
+    }
+}
+
+// One record more: a scan stops at the first that is wanted.
+fn see(stop: usize, i: usize, m: SharedReadMark, wanted: Wanted) -> usize
+    ensures { λ r. ⌜ r ≡ cond (picks wanted m) i stop ⌝ }
 {
     if is_wanted(m, wanted) {
-        let here = Record::At(i);
-        return Found {
-            stop: i,
-            place: here,
-            item: m,
-        };
+        return i;
     }
-    found
+    stop
 }
 
 // The first of the first n records, or of all if there are fewer, that is wanted. Four at a time are passed over where none is.
 fn first_record(registry: &[SharedReadMark], n: usize, wanted: Wanted) -> Found
-    ensures { λ r. ⌜ r ≡ found-of (picks wanted) (now (registry .entry)) (min n (length (now (registry .entry)))) (min n (length (now (registry .entry)))) ⌝ }
+    ensures { λ r. ⌜ r ≡ found-of (picks wanted) (now (registry .entry)) (min n (length (now (registry .entry)))) ⌝ }
 {
     let end = smaller(n, registry.len());
-    let mut found = nothing_found(end);
+    let mut stop = end;
     let mut i = 0;
-    while i < found.stop {
+    while i < stop {
         let mut pass = false;
-        if 4 <= found.stop - i {
+        if 4 <= stop - i {
             pass = none_wanted(
                 registry[i],
                 registry[i + 1],
@@ -149,11 +152,14 @@ fn first_record(registry: &[SharedReadMark], n: usize, wanted: Wanted) -> Found
         if pass {
             i += 4;
         } else {
-            found = see(found, i, registry[i], wanted);
+            stop = see(stop, i, registry[i], wanted);
             i += 1;
         }
     }
-    found
+    if stop < end {
+        return found_here(stop, registry[stop]);
+    }
+    nothing_found()
 }
 
 fn mark_wanted(mark: u64) -> Wanted

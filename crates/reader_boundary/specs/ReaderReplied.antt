@@ -5,7 +5,7 @@ use Prim.Native.Nat.{ℕ}
 use Rattle.wal_types.specs.declared.SharedReadMark.{SharedReadMark}
 use Rattle.wal_types.specs.Memory.{Memory, Process}
 use Rattle.wal_types.specs.Call.{Call, Answer, Done, after}
-use Rattle.readers.specs.Slots.{slots-in, locals-in}
+use Rattle.reader_slots.specs.Slots.{slots-in, locals-in}
 use Rattle.shared_marks.specs.Shared.{registry-in}
 
 -- The reply tells what the call answers, and the call leaves this memory and this process.

@@ -1,6 +1,6 @@
 // The calls on reader slots and shared marks.
 use reader_floor::floor;
-use reader_floor::limit;
+use reader_limit::limit;
 use reader_replies::DbFileReply;
 use reader_replies::FloorReply;
 use reader_replies::LimitReply;
@@ -11,9 +11,9 @@ use shared_marks::shared;
 use wal_types::SharedOwnerRecord;
 use wal_types::SharedReadMark;
 ghost use Rattle.readers.specs.Register.{register-reader};
-ghost use Rattle.readers.specs.Update.{update-reader, unregister-reader};
+ghost use Rattle.reader_moves.specs.Update.{update-reader, unregister-reader};
 ghost use Rattle.reader_floor.specs.Floor.{min-active-reader-frame, has-active-db-file-reader};
-ghost use Rattle.reader_floor.specs.Limit.{copy-back-limit};
+ghost use Rattle.reader_limit.specs.Limit.{copy-back-limit};
 ghost use Rattle.shared_marks.specs.Shared.{register-reader-for-snapshot, register-db-file-reader, unregister-reader-for-snapshot};
 ghost use Rattle.replies.specs.Reply.{refusal-number};
 ghost use Rattle.replies.specs.Mode.{mode-given, with-mode};

@@ -1,19 +1,19 @@
 // The reader calls' answers in numbers, for the C functions: the replies, and the settings read from numbers.
 use reader_floor::floor::DbFileReader;
 use reader_floor::floor::MinFrame;
-use reader_floor::limit::Limit;
+use reader_limit::limit::Limit;
+use reader_moves::update::Release;
+use reader_moves::update::Update;
 use readers::register::Register;
-use readers::update::Release;
-use readers::update::Update;
 use replies::Mode;
 use shared_marks::shared::Share;
 use wal_types::SharedWalOwnershipMode;
 ghost use mathlib.Core.Path.{_≡_};
 ghost use Rattle.wal_types.specs.Call.{slot-taken};
 ghost use Rattle.readers.specs.Register.{register-answer};
-ghost use Rattle.readers.specs.Update.{update-answer, release-answer};
+ghost use Rattle.reader_moves.specs.Update.{update-answer, release-answer};
 ghost use Rattle.reader_floor.specs.Floor.{min-frame-answer, db-file-answer};
-ghost use Rattle.reader_floor.specs.Limit.{limit-answer};
+ghost use Rattle.reader_limit.specs.Limit.{limit-answer};
 ghost use Rattle.shared_marks.specs.Shared.{share-answer};
 ghost use Rattle.replies.specs.Reply.{refusal-number};
 ghost use Rattle.replies.specs.Mode.{mode-given};

@@ -32,7 +32,7 @@ use Rattle.reader_slots.specs.Search.{lowest-slot, some-slot}
 use Rattle.readers.specs.Register.{register-reader}
 use Rattle.reader_moves.specs.Update.{unregister-reader}
 use Rattle.reader_floor.specs.Floor.{floor-from, min-active-reader-frame}
-use Rattle.reader_floor.specs.Limit.{copy-back-limit}
+use Rattle.reader_limit.specs.Limit.{copy-back-limit}
 use Rattle.mark_registry.specs.Registry.{first-record}
 use Rattle.shared_marks.specs.Shared.{register-reader-for-snapshot, unregister-reader-for-snapshot}
 use Rattle.grown_index.specs.Entries.{entries, greatest, taken-off, up-to}

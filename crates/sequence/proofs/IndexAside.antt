@@ -23,11 +23,11 @@ use Rattle.reader_slots.specs.declared.slots.Slot.{Slot}
 use Rattle.reader_slots.specs.declared.slots.Slot.the-variants.{At as SlotAt, Nothing as NoSlot}
 use Rattle.reader_slots.specs.Slots.{empty-slot, empty-slots}
 use Rattle.readers.specs.Register.{reclaim-unless, take-found, first-slot, chosen-slot, registers, register-tests, register-reader}
-use Rattle.readers.specs.Update.{update-tests, update-reader, releases-slot, unregister-reader}
-use Rattle.readers.specs.Update.{release-tests as release-slot-tests}
-use Rattle.reader_floor.specs.Floor.{dead, reclaim-dead, floor-of, floor-answer, probe-tests, db-file-reader, looked-at, min-active-reader-frame, has-active-db-file-reader}
-use Rattle.readers.specs.Register.{found-slot}
-use Rattle.reader_floor.specs.Limit.{limit-of, copy-back-limit}
+use Rattle.reader_moves.specs.Update.{update-tests, update-reader, releases-slot, unregister-reader, release-tests as release-slot-tests}
+use Rattle.live_readers.specs.Live.{dead, looked-at}
+use Rattle.reader_floor.specs.Floor.{reclaim-dead, floor-of, floor-answer, probe-tests, db-file-reader, min-active-reader-frame, has-active-db-file-reader}
+use Rattle.reader_slots.specs.Search.{found-slot}
+use Rattle.reader_limit.specs.Limit.{limit-of, copy-back-limit}
 use Rattle.mark_registry.specs.declared.Record.{Record}
 use Rattle.mark_registry.specs.declared.Record.the-variants.{At, Nothing}
 use Rattle.mark_registry.specs.Registry.{record-of, one-less, with-record}

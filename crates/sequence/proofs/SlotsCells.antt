@@ -12,11 +12,11 @@ use Rattle.wal_types.specs.declared.SharedReadMark.{SharedReadMark}
 use Rattle.wal_types.specs.Settings.{words-for}
 use Rattle.wal_types.specs.Memory.{Memory, Process, no-mark}
 use Rattle.wal_types.specs.Refusal.{Refusal, Test, number, lowest, settings, short-memory, frame-order, hash-full, short-list, slot-number, not-held, other-owner, no-owner, unused-mark, shared-slot, no-such-mark, registry-full, card, probe}
-use Rattle.readers.specs.declared.slots.Slot.{Slot}
-use Rattle.readers.specs.declared.slots.Slot.the-variants.{At as SlotAt, Nothing as NoSlot}
-use Rattle.readers.specs.Slots.{short-slots, in-registry}
-use Rattle.readers.specs.Register.{lowest-slot}
-use Rattle.readers.proofs.Lowest.{lowest-at, lowest-below, lowest-nothing}
+use Rattle.reader_slots.specs.declared.slots.Slot.{Slot}
+use Rattle.reader_slots.specs.declared.slots.Slot.the-variants.{At as SlotAt, Nothing as NoSlot}
+use Rattle.reader_slots.specs.Slots.{short-slots, in-registry}
+use Rattle.reader_slots.specs.Search.{lowest-slot}
+use Rattle.reader_slots.proofs.Lowest.{lowest-at, lowest-below, lowest-nothing}
 use Rattle.mark_registry.specs.declared.Record.{Record}
 use Rattle.mark_registry.specs.declared.Record.the-variants.{At, Nothing}
 use Rattle.mark_registry.specs.Registry.{is-empty, fits, first-record, record-of, empty-record}

@@ -16,10 +16,10 @@ use Rattle.wal_types.specs.Memory.{Memory, Process, no-mark}
 use Rattle.wal_types.specs.Store.{apply}
 use Rattle.wal_types.specs.Refusal.{Test, _if_, lowest, slot-number, not-held, other-owner, no-owner, unused-mark, no-such-mark}
 use Rattle.wal_types.specs.Call.{Answer, refused, ok}
-use Rattle.readers.specs.Slots.{is-fcntl, held, empty-slot, slots-in}
-use Rattle.readers.specs.Update.{not-owner}
-use Rattle.readers.specs.Inner.{slots-refusal, SlotsBecome}
-use Rattle.readers.proofs.Calls.{refuses, accepts, release-one-or-two, release-neither}
+use Rattle.reader_slots.specs.Slots.{held, empty-slot, slots-in}
+use Rattle.reader_moves.specs.Update.{not-owner}
+use Rattle.reader_slots.specs.Inner.{slots-refusal, SlotsBecome}
+use Rattle.reader_slots.proofs.Calls.{refuses, accepts, release-one-or-two, release-neither}
 use Rattle.mark_registry.specs.declared.Record.the-variants.{At, Nothing}
 use Rattle.mark_registry.specs.declared.Seen.{Seen}
 use Rattle.mark_registry.specs.Registry.{record-of, one-less}

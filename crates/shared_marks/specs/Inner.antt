@@ -7,14 +7,13 @@ use lib.Dec.{eqb, ltb}
 use lib.ListN.{length, getD, set}
 use Rattle.wal_types.specs.declared.SharedReadMark.{SharedReadMark}
 use Rattle.wal_types.specs.declared.SharedWalOwnershipMode.{SharedWalOwnershipMode}
-use Rattle.wal_types.specs.Settings.{slots-in-limits, unused}
+use Rattle.wal_types.specs.Settings.{slots-in-limits, unused, is-fcntl}
 use Rattle.wal_types.specs.Memory.{slot-bit}
 use Rattle.wal_types.specs.Refusal.{_if_, lowest, settings, short-memory, not-held, other-owner, no-owner, unused-mark, no-such-mark}
 use Rattle.wal_types.specs.Call.{Call, Answer}
-use Rattle.readers.specs.Slots.{is-fcntl, shorter}
-use Rattle.readers.specs.Register.{found-slot, lowest-slot}
-use Rattle.readers.specs.Register.{some-slot}
-use Rattle.readers.specs.Inner.{available-by}
+use Rattle.reader_slots.specs.Slots.{shorter}
+use Rattle.reader_slots.specs.Search.{found-slot, lowest-slot, some-slot}
+use Rattle.reader_slots.specs.Inner.{available-by}
 use Rattle.mark_registry.specs.declared.Seen.{Seen}
 use Rattle.mark_registry.specs.Scan.{seen-of}
 use Rattle.shared_marks.specs.declared.shared.Share.{Share}

@@ -11,11 +11,12 @@ use Rattle.wal_types.specs.Settings.{slots-in-limits, unused, most-holders}
 use Rattle.wal_types.specs.Memory.{Memory, Process, no-mark}
 use Rattle.wal_types.specs.Refusal.{Test, _if_, settings, short-memory, slot-number, not-held, other-owner, no-owner, unused-mark, no-such-mark, registry-full, card}
 use Rattle.wal_types.specs.Call.{Call, Answer, refused, slot-taken, none, ok, unless, after, done}
-use Rattle.readers.specs.declared.slots.Slot.{Slot}
-use Rattle.readers.specs.declared.slots.Slot.the-variants.{At as SlotAt, Nothing as NoSlot}
-use Rattle.readers.specs.Slots.{short-slots, bad-card, held, slots-in}
-use Rattle.readers.specs.Register.{found-slot, chosen-slot, registers}
-use Rattle.readers.specs.Update.{not-owner, releases-slot}
+use Rattle.reader_slots.specs.declared.slots.Slot.{Slot}
+use Rattle.reader_slots.specs.declared.slots.Slot.the-variants.{At as SlotAt, Nothing as NoSlot}
+use Rattle.reader_slots.specs.Slots.{short-slots, bad-card, held, slots-in}
+use Rattle.reader_slots.specs.Search.{found-slot}
+use Rattle.readers.specs.Register.{chosen-slot, registers}
+use Rattle.reader_moves.specs.Update.{not-owner, releases-slot}
 use Rattle.mark_registry.specs.declared.Record.{Record}
 use Rattle.mark_registry.specs.declared.Record.the-variants.{At, Nothing}
 use Rattle.shared_marks.specs.declared.shared.Share.{Share}

@@ -1,7 +1,7 @@
 // update_reader and unregister_reader, with the registry lent. Both are turned away from a slot of the registry.
-use readers::update;
-use readers::update::Release;
-use readers::update::Update;
+use reader_moves::update;
+use reader_moves::update::Release;
+use reader_moves::update::Update;
 use wal_types::SharedOwnerRecord;
 use wal_types::SharedReadMark;
 use wal_types::SharedWalOwnershipMode;

@@ -1,6 +1,11 @@
 // register_reader_for_snapshot, register_db_file_reader and unregister_reader_for_snapshot.
 use mark_registry::Record;
 use mark_registry::Seen;
+use reader_moves::update;
+use reader_moves::update::Release;
+use reader_slots::available;
+use reader_slots::slots;
+use reader_slots::slots::Slot;
 use readers::register;
 use readers::register::Register;
 use wal_types::DB_FILE_READER_FRAME;
@@ -12,8 +17,8 @@ use wal_types::UNUSED_READER_FRAME;
 ghost use mathlib.Core.Path.{_≡_};
 ghost use Prim.Native.Nat.{_+_, _/_, _≤_};
 ghost use lib.ListN.{length};
-ghost use Rattle.readers.specs.Register.{some-slot};
-ghost use Rattle.readers.specs.Update.{release-answer};
+ghost use Rattle.reader_slots.specs.Search.{some-slot};
+ghost use Rattle.reader_moves.specs.Update.{release-answer};
 ghost use Rattle.mark_registry.specs.Registry.{one-less};
 ghost use Rattle.shared_marks.specs.Shared.{register-reader-for-snapshot, register-db-file-reader, unregister-reader-for-snapshot, share-answer, SharedCall};
 ghost use Rattle.shared_marks.specs.Inner.{share-refusal, stale-cell, stale-by, no-record-answer, mark-refusal, last-refusal, PlanCall};

@@ -1,5 +1,5 @@
 -- `mark_registry::first_record` meets its contract: a walk of its MIR, by hand, with a loop. The slice is looked into once, before the loop, and shut after it. A turn takes records out of the row, copies each and puts it back: four for `none_wanted` where so many are left, and then, unless they are passed over, one for `see`.
--- All that the proof knows of the functions that it calls is that each meets its contract. The loop's invariant: the local holds what the first i records give.
+-- All that the proof knows of the functions that it calls is that each meets its contract. The loop's invariant: `stop` is where the scan of the first i records stops.
 -- Assumes nothing.
 use mathlib.Core.Path.{_≡_, refl, sym, ap, subst, _∙_}
 use mathlib.Core.Bool.{Bool, true, false, cond as choose}
@@ -26,7 +26,7 @@ use contract.Monad.{Fun, fact}
 use contract.Running.{givenOf, tables, tablesOf}
 use types.Kit.{Given, Item, ‵, raw, some, later, _⊛_, ⋆, runs, anyQ, atRet, Sq, _$_, _∵_, !, qed, by, move, keep, drop, use1, use2, split, join, pick, await, rewrite, fsplit, fjoin, suffices, frame, done}
 use types.Part.{whole, sub, look-in}
-use types.Run.{look, look-raw, init, store, forget, stop, hop, fld, from, load, lit, false-lit, of-opd, bin, and-then, no-more, land, land-last, assigns, assigns-last, first, skips, jumps, blocks, branches, returns, enter, alloc1, alloc0, params1, pass1, pass0, free1, free0, exec, Below, again, loops}
+use types.Run.{look, look-raw, init, store, forget, stop, hop, fld, from, load, lit, false-lit, of-opd, bin, and-then, no-more, land, land-last, assigns, assigns-last, first, skips, jumps, blocks, branches, returns, returns-within, enter, alloc1, alloc0, params1, pass1, pass0, free1, free0, exec, Below, again, loops}
 use types.Share.{arr-parts}
 use sound.WpLaws.{fmOf, WpFn-mono}
 use borrow.Author.Needs.{scaled-fits}
@@ -56,8 +56,9 @@ use Rattle.wal_types.proofs.SharedReadMark as T
 use Rattle.wal_types.proofs.SharedReadMark.Laws as T′
 use Rattle.mark_registry.specs.declared.Wanted.{Wanted}
 use Rattle.mark_registry.specs.declared.Found.{Found}
-use Rattle.mark_registry.specs.Scan.{picks, none-picked, nothing-found, found-here, found-of}
-use Rattle.mark_registry.proofs.Scan.{found-zero, found-next, found-four, found-end, stop-within, four-parts}
+use Rattle.mark_registry.specs.Scan.{picks, none-picked, stop-at, nothing-found, found-here, found-of}
+use Rattle.mark_registry.specs.Registry.{first-record}
+use Rattle.mark_registry.proofs.Scan.{stop-zero, stop-next, stop-four, stop-within, found-there, found-nothing, four-parts}
 use Rattle.mark_registry.proofs.Found as F
 use Rattle.mark_registry.proofs.Found.Laws as F′
 use Rattle.mark_registry.proofs.Wanted as K
@@ -70,6 +71,10 @@ use Rattle.mark_registry.proofs.none_wanted as fours
 use Rattle.mark_registry.proofs.none_wanted.Symbol as fours-def
 use Rattle.mark_registry.proofs.none_wanted.Symbol.{name as #mark-registry·none-wanted}
 use Rattle.mark_registry.proofs.none_wanted.Met as fours-thm
+use Rattle.mark_registry.proofs.found_here as here
+use Rattle.mark_registry.proofs.found_here.Symbol as here-def
+use Rattle.mark_registry.proofs.found_here.Symbol.{name as #mark-registry·found-here}
+use Rattle.mark_registry.proofs.found_here.Met as here-thm
 use Rattle.mark_registry.proofs.nothing_found as start
 use Rattle.mark_registry.proofs.nothing_found.Symbol as start-def
 use Rattle.mark_registry.proofs.nothing_found.Symbol.{name as #mark-registry·nothing-found}
@@ -132,6 +137,9 @@ Small 𝓤 H A mem run = tripleOf 𝓤 H A small.signature (small.spec 𝓤 H A 
 abbrev Start : {M : Type 1} (𝓤 : URA M) (H : Heap 𝓤) (A : Atoms 𝓤) (mem : Memory → SProp 𝓤) (run : Routine → Fun 𝓤) → Contract 𝓤
 Start 𝓤 H A mem run = tripleOf 𝓤 H A start.signature (start.spec 𝓤 H A mem run)
 
+abbrev Here : {M : Type 1} (𝓤 : URA M) (H : Heap 𝓤) (A : Atoms 𝓤) (mem : Memory → SProp 𝓤) (run : Routine → Fun 𝓤) → Contract 𝓤
+Here 𝓤 H A mem run = tripleOf 𝓤 H A here.signature (here.spec 𝓤 H A mem run)
+
 abbrev Core : {M : Type 1} (𝓤 : URA M) (H : Heap 𝓤) (A : Atoms 𝓤) (mem : Memory → SProp 𝓤) (run : Routine → Fun 𝓤) → Contract 𝓤
 Core 𝓤 H A mem run = tripleOf 𝓤 H A core.signature (core.spec 𝓤 H A mem run)
 
@@ -155,12 +163,12 @@ module _ {M : Type 1} (𝓤 : URA M) (H : Heap 𝓤) (A : Atoms 𝓤) (W : Given
   abbrev at : List Val × (List Val × (List Val × Unit {0}))
   at = (s ∷ [], (vint w64 n ∷ [], (wval w ∷ [], tt)))
 
-  -- how many records are looked at, what the first i give, and the record at i
+  -- how many records are looked at, where the scan stops after the first i, and the record at i
   abbrev end : ℕ
   end = min n (length ys)
 
-  abbrev scan : ℕ → Found
-  scan i = found-of (picks w) ys end i
+  abbrev scan : ℕ → ℕ
+  scan i = stop-at end (first-record (picks w) ys i 0)
 
   le : end ≤ length ys
   le = omega arith
@@ -174,7 +182,7 @@ module _ {M : Type 1} (𝓤 : URA M) (H : Heap 𝓤) (A : Atoms 𝓤) (W : Given
   abbrev Post : Val → SProp 𝓤
   Post = walkOf 𝓤 H A find.ended stayed (find.clauses 𝓤 H A mem run) .post (((κ, tt), (q, tt), tt, a, at), tt)
 
-  exits : (f : Found) → f ≡ scan end → Is Q f (fval f ∷ []) → ent 𝓤 (⋆ 𝓤 H A (‵ (flft κ q) ∷ ‵ (ShrSlice (named 0) κ R .own x (s ∷ [])) ∷ [])) (Post (fval f))
+  exits : (f : Found) → f ≡ found-of (picks w) ys end → Is Q f (fval f ∷ []) → ent 𝓤 (⋆ 𝓤 H A (‵ (flft κ q) ∷ ‵ (ShrSlice (named 0) κ R .own x (s ∷ [])) ∷ [])) (Post (fval f))
   exits f e g =
       qed W (‵ (flft κ q) ∷ ‵ (ShrSlice (named 0) κ R .own x (s ∷ [])) ∷ []) ∵
       suffices ! _ (ends-at 𝓤 H A find.ended stayed (find.clauses 𝓤 H A mem run) W (((κ, tt), (q, tt), tt, a, at), tt) (fval f) f (tt, (tt, (tt, tt))) (tt, (tt, (tt, tt)))) $ says ! e $
@@ -182,9 +190,9 @@ module _ {M : Type 1} (𝓤 : URA M) (H : Heap 𝓤) (A : Atoms 𝓤) (W : Given
       nothing ! $ owned ! K.the-row (Is K.the-row) (EL.makes K.the-type K′.the-plain 𝓤 H A) w _ gw $ fjoin ! $ owned ! usize (Is usize) (uint-makes 𝓤 H A W w64) n _ (refl, gn) $ fjoin ! $ move ! (1 ∷ 0 ∷ []) $ fjoin ! $ frame ! $
       owned ! Q (Is Q) (LL.makes F.the-type F′.the-plain 𝓤 H A) f _ g $ done !
 
-  -- the loop's variant, with what is known there: i is at most `end`, and what the first i records give is a value of its type
+  -- the loop's variant: i is at most `end`
   abbrev Upto : Type 0
-  Upto = (i : ℕ) × ((i ≤ end) × Is Q (scan i) (fval (scan i) ∷ []))
+  Upto = (i : ℕ) × (i ≤ end)
 
   abbrev Nearer : Upto → Upto → Type 0
   Nearer j i = end - j .0 < end - i .0
@@ -193,22 +201,22 @@ module _ {M : Type 1} (𝓤 : URA M) (H : Heap 𝓤) (A : Atoms 𝓤) (W : Given
   Nearer-wf = InvImage·wf (λ (i : Upto). end - i .0) (Nat·lt-wfRel .wf)
 
   -- what `see` is passed
-  abbrev args : ℕ → Found × (ℕ × (SharedReadMark × (Wanted × Unit {0})))
+  abbrev args : ℕ → ℕ × (ℕ × (SharedReadMark × (Wanted × Unit {0})))
   args i = (scan i, (i, (elem i, (w, tt))))
 
   abbrev argv : ℕ → List Val × (List Val × (List Val × (List Val × Unit {0})))
-  argv i = (fval (scan i) ∷ [], (vint w64 i ∷ [], (mach (elem i) ∷ [], (wval w ∷ [], tt))))
+  argv i = (vint w64 (scan i) ∷ [], (vint w64 i ∷ [], (mach (elem i) ∷ [], (wval w ∷ [], tt))))
 
   abbrev to-core : ℕ → Core 𝓤 H A mem run .Ghost
   to-core i = ((tt, tt, tt, args i, argv i), tt)
 
-  goes-core : (i : ℕ) → ent 𝓤 (sep 𝓤 (sem 𝓤 H A ftrue) (sem 𝓤 H A (owns (Q ∷ usize ∷ R ∷ K.the-row ∷ []) (args i) (argv i)))) (Core 𝓤 H A mem run .pre (to-core i))
-  goes-core i = qed W (‵ ftrue ∷ ‵ (owns (Q ∷ usize ∷ R ∷ K.the-row ∷ []) (args i) (argv i)) ∷ []) ∵ join ! $ frame ! $ done !
+  goes-core : (i : ℕ) → ent 𝓤 (sep 𝓤 (sem 𝓤 H A ftrue) (sem 𝓤 H A (owns (usize ∷ usize ∷ R ∷ K.the-row ∷ []) (args i) (argv i)))) (Core 𝓤 H A mem run .pre (to-core i))
+  goes-core i = qed W (‵ ftrue ∷ ‵ (owns (usize ∷ usize ∷ R ∷ K.the-row ∷ []) (args i) (argv i)) ∷ []) ∵ join ! $ frame ! $ done !
 
-  abbrev stepped : ℕ → Found
-  stepped i = choose (picks w (elem i)) (found-here i (elem i)) (scan i)
+  abbrev stepped : ℕ → ℕ
+  stepped i = choose (picks w (elem i)) i (scan i)
 
-  said : (i : ℕ) (r : Found) → ent 𝓤 (ensured 𝓤 H A core.ended (core.clauses 𝓤 H A mem run) tt (args i) tt r) (fact 𝓤 (r ≡ stepped i))
+  said : (i r : ℕ) → ent 𝓤 (ensured 𝓤 H A core.ended (core.clauses 𝓤 H A mem run) tt (args i) tt r) (fact 𝓤 (r ≡ stepped i))
   said i r = exE 𝓤 _ (λ ws. snd∗ 𝓤 (sem 𝓤 H A (lasts core.ended tt (args i) ws)) (fact 𝓤 (r ≡ stepped i)))
 
   -- what `none_wanted` is passed
@@ -230,23 +238,23 @@ module _ {M : Type 1} (𝓤 : URA M) (H : Heap 𝓤) (A : Atoms 𝓤) (W : Given
   said-fours : (i : ℕ) (t : Bool) → ent 𝓤 (ensured 𝓤 H A fours.ended (fours.clauses 𝓤 H A mem run) tt (quad i) tt t) (fact 𝓤 (t ≡ passed i))
   said-fours i t = exE 𝓤 _ (λ ws. snd∗ 𝓤 (sem 𝓤 H A (lasts fours.ended tt (quad i) ws)) (fact 𝓤 (t ≡ passed i)))
 
-  val-of : (k : ℕ) (r : Found) (v : Val) → r ≡ scan k → Is Q r (v ∷ []) → v ≡ fval (scan k)
-  val-of k r v e is = ap only (LL.tells F.the-type F′.the-laws r (v ∷ []) is) ∙ ap fval e
+  abbrev to-here : ℕ → Here 𝓤 H A mem run .Ghost
+  to-here i = ((tt, tt, tt, (i, (elem i, tt)), (vint w64 i ∷ [], (mach (elem i) ∷ [], tt))), tt)
 
-  rel-of : (k : ℕ) (r : Found) (v : Val) → r ≡ scan k → Is Q r (v ∷ []) → Is Q (scan k) (fval (scan k) ∷ [])
-  rel-of k r v e is = subst (λ (f : Found). Is Q f (fval f ∷ [])) e (subst (Is Q r) (LL.tells F.the-type F′.the-laws r (v ∷ []) is) is)
+  goes-here : (i : ℕ) → ent 𝓤 (sep 𝓤 (sem 𝓤 H A ftrue) (sem 𝓤 H A (owns (usize ∷ R ∷ []) (i, (elem i, tt)) (vint w64 i ∷ [], (mach (elem i) ∷ [], tt))))) (Here 𝓤 H A mem run .pre (to-here i))
+  goes-here i = qed W (‵ ftrue ∷ ‵ (owns (usize ∷ R ∷ []) (i, (elem i, tt)) (vint w64 i ∷ [], (mach (elem i) ∷ [], tt))) ∷ []) ∵ join ! $ frame ! $ done !
 
-  rel-at : (i k : ℕ) → scan i ≡ scan k → Is Q (scan i) (fval (scan i) ∷ []) → Is Q (scan k) (fval (scan k) ∷ [])
-  rel-at i k e is = subst (λ (f : Found). Is Q f (fval f ∷ [])) e is
+  said-here : (i : ℕ) (r : Found) → ent 𝓤 (ensured 𝓤 H A here.ended (here.clauses 𝓤 H A mem run) tt (i, (elem i, tt)) tt r) (fact 𝓤 (r ≡ found-here i (elem i)))
+  said-here i r = exE 𝓤 _ (λ ws. snd∗ 𝓤 (sem 𝓤 H A (lasts here.ended tt (i, (elem i, tt)) ws)) (fact 𝓤 (r ≡ found-here i (elem i))))
 
   abbrev to-start : Start 𝓤 H A mem run .Ghost
-  to-start = ((tt, tt, tt, (end, tt), (vint w64 end ∷ [], tt)), tt)
+  to-start = ((tt, tt, tt, tt, tt), tt)
 
-  goes-start : ent 𝓤 (sep 𝓤 (sem 𝓤 H A ftrue) (sem 𝓤 H A (owns (usize ∷ []) (end, tt) (vint w64 end ∷ [], tt)))) (Start 𝓤 H A mem run .pre to-start)
-  goes-start = qed W (‵ ftrue ∷ ‵ (owns (usize ∷ []) (end, tt) (vint w64 end ∷ [], tt)) ∷ []) ∵ join ! $ frame ! $ done !
+  goes-start : ent 𝓤 (sep 𝓤 (sem 𝓤 H A ftrue) (sem 𝓤 H A (owns [] tt tt))) (Start 𝓤 H A mem run .pre to-start)
+  goes-start = qed W (‵ ftrue ∷ ‵ (owns [] tt tt) ∷ []) ∵ join ! $ frame ! $ done !
 
-  said-start : (r : Found) → ent 𝓤 (ensured 𝓤 H A start.ended (start.clauses 𝓤 H A mem run) tt (end, tt) tt r) (fact 𝓤 (r ≡ nothing-found end))
-  said-start r = exE 𝓤 _ (λ ws. snd∗ 𝓤 (sem 𝓤 H A (lasts start.ended tt (end, tt) ws)) (fact 𝓤 (r ≡ nothing-found end)))
+  said-start : (r : Found) → ent 𝓤 (ensured 𝓤 H A start.ended (start.clauses 𝓤 H A mem run) tt tt tt r) (fact 𝓤 (r ≡ nothing-found))
+  said-start r = exE 𝓤 _ (λ ws. snd∗ 𝓤 (sem 𝓤 H A (lasts start.ended tt tt ws)) (fact 𝓤 (r ≡ nothing-found)))
 
   abbrev to-small : Small 𝓤 H A mem run .Ghost
   to-small = ((tt, tt, tt, (n, (length ys, tt)), (vint w64 n ∷ [], (vint w64 (length ys) ∷ [], tt))), tt)
@@ -257,7 +265,7 @@ module _ {M : Type 1} (𝓤 : URA M) (H : Heap 𝓤) (A : Atoms 𝓤) (W : Given
   said-small : (r : ℕ) → ent 𝓤 (ensured 𝓤 H A small.ended (small.clauses 𝓤 H A mem run) tt (n, (length ys, tt)) tt r) (fact 𝓤 (r ≡ end))
   said-small r = exE 𝓤 _ (λ ws. snd∗ 𝓤 (sem 𝓤 H A (lasts small.ended tt (n, (length ys, tt)) ws)) (fact 𝓤 (r ≡ end)))
 
-  module _ (𝓣 : Tables 𝓤 H) (known : Triple 𝓤 (𝓣 .C #mark-registry·see) (Core 𝓤 H A mem run)) (known-fours : Triple 𝓤 (𝓣 .C #mark-registry·none-wanted) (Fours 𝓤 H A mem run)) (q′ : Share) (l₀ l₁ l₂ l₃ l₄ l₅ l₆ l₇ l₈ l₉ l₁₀ l₁₁ l₁₂ l₁₃ l₁₄ l₁₅ l₁₆ l₁₇ l₁₈ l₁₉ l₂₀ l₂₁ l₂₂ l₂₃ l₂₄ l₂₅ l₂₆ l₂₇ l₂₈ : ℕ) where
+  module _ (𝓣 : Tables 𝓤 H) (known : Triple 𝓤 (𝓣 .C #mark-registry·see) (Core 𝓤 H A mem run)) (known-fours : Triple 𝓤 (𝓣 .C #mark-registry·none-wanted) (Fours 𝓤 H A mem run)) (known-here : Triple 𝓤 (𝓣 .C #mark-registry·found-here) (Here 𝓤 H A mem run)) (known-start : Triple 𝓤 (𝓣 .C #mark-registry·nothing-found) (Start 𝓤 H A mem run)) (q′ : Share) (l₀ l₁ l₂ l₃ l₄ l₅ l₆ l₇ l₈ l₉ l₁₀ l₁₁ l₁₂ l₁₃ l₁₄ l₁₅ l₁₆ l₁₇ l₁₈ l₁₉ l₂₀ l₂₁ l₂₂ l₂₃ l₂₄ l₂₅ l₂₆ l₂₇ l₂₈ l₂₉ l₃₀ l₃₁ l₃₂ : ℕ) where
     abbrev C : Calls 𝓤 H
     C = 𝓣 .C
 
@@ -265,28 +273,30 @@ module _ {M : Type 1} (𝓤 : URA M) (H : Heap 𝓤) (A : Atoms 𝓤) (W : Given
     Λ = 𝓣 .Λ
 
     abbrev En : Env 𝓤 H
-    En = (F′.mir, l₀) ∷ (slice, l₁) ∷ (word, l₂) ∷ (K′.mir, l₃) ∷ (word, l₄) ∷ (F′.mir, l₅) ∷ (word, l₆) ∷ (tyBool, l₇) ∷ (word, l₈) ∷ (tyBool, l₉) ∷ (word, l₁₀) ∷ (word, l₁₁) ∷ (tyPtr, l₁₂) ∷ (T′.mir, l₁₃) ∷ (word, l₁₄) ∷ (word, l₁₅) ∷ (tyPtr, l₁₆) ∷ (T′.mir, l₁₇) ∷ (word, l₁₈) ∷ (word, l₁₉) ∷ (tyPtr, l₂₀) ∷ (T′.mir, l₂₁) ∷ (word, l₂₂) ∷ (word, l₂₃) ∷ (tyPtr, l₂₄) ∷ (T′.mir, l₂₅) ∷ (word, l₂₆) ∷ (tyPtr, l₂₇) ∷ (T′.mir, l₂₈) ∷ []
+    En = (F′.mir, l₀) ∷ (slice, l₁) ∷ (word, l₂) ∷ (K′.mir, l₃) ∷ (word, l₄) ∷ (word, l₅) ∷ (word, l₆) ∷ (tyBool, l₇) ∷ (word, l₈) ∷ (tyBool, l₉) ∷ (word, l₁₀) ∷ (word, l₁₁) ∷ (tyPtr, l₁₂) ∷ (T′.mir, l₁₃) ∷ (word, l₁₄) ∷ (word, l₁₅) ∷ (tyPtr, l₁₆) ∷ (T′.mir, l₁₇) ∷ (word, l₁₈) ∷ (word, l₁₉) ∷ (tyPtr, l₂₀) ∷ (T′.mir, l₂₁) ∷ (word, l₂₂) ∷ (word, l₂₃) ∷ (tyPtr, l₂₄) ∷ (T′.mir, l₂₅) ∷ (word, l₂₆) ∷ (tyPtr, l₂₇) ∷ (T′.mir, l₂₈) ∷ (tyBool, l₂₉) ∷ (word, l₃₀) ∷ (tyPtr, l₃₁) ∷ (T′.mir, l₃₂) ∷ []
 
-    -- the invariant, and the same with what `pass` holds: [the row; what shuts; the fractured borrow; res; the slice's fact; _28 at 5; …; _0 at 61; …]
+    -- the invariant, and the same with what `pass` holds: [the row; what shuts; the fractured borrow; res; the slice's fact; _32 at 5; …; _0 at 69; …]
     abbrev At : Upto → List (Item 𝓤)
     At i = ‵ (row R q′ ys b o) ∷ ‵ (fobor κ q (arr-parts (shares R) (length ys) .part q′ ys b o)) ∷ ‵ (fshr-bor κ (λ t. arr-parts (shares R) (length ys) .part t ys b o))
         ∷ ‵ (fres γ (codedHoleys R .code (heres R ys))) ∷ ‵ (at-slice R x (s ∷ []))
-        ∷ ‵ (froom T′.mir l₂₈ 0) ∷ ‵ (fdies T′.mir l₂₈) ∷ ‵ (froom tyPtr l₂₇ 0) ∷ ‵ (fdies tyPtr l₂₇) ∷ ‵ (froom word l₂₆ 0) ∷ ‵ (fdies word l₂₆) ∷ ‵ (froom T′.mir l₂₅ 0) ∷ ‵ (fdies T′.mir l₂₅) ∷ ‵ (froom tyPtr l₂₄ 0) ∷ ‵ (fdies tyPtr l₂₄)
-        ∷ ‵ (froom word l₂₃ 0) ∷ ‵ (fdies word l₂₃) ∷ ‵ (froom word l₂₂ 0) ∷ ‵ (fdies word l₂₂) ∷ ‵ (froom T′.mir l₂₁ 0) ∷ ‵ (fdies T′.mir l₂₁) ∷ ‵ (froom tyPtr l₂₀ 0) ∷ ‵ (fdies tyPtr l₂₀) ∷ ‵ (froom word l₁₉ 0) ∷ ‵ (fdies word l₁₉)
-        ∷ ‵ (froom word l₁₈ 0) ∷ ‵ (fdies word l₁₈) ∷ ‵ (froom T′.mir l₁₇ 0) ∷ ‵ (fdies T′.mir l₁₇) ∷ ‵ (froom tyPtr l₁₆ 0) ∷ ‵ (fdies tyPtr l₁₆) ∷ ‵ (froom word l₁₅ 0) ∷ ‵ (fdies word l₁₅) ∷ ‵ (froom word l₁₄ 0) ∷ ‵ (fdies word l₁₄)
-        ∷ ‵ (froom T′.mir l₁₃ 0) ∷ ‵ (fdies T′.mir l₁₃) ∷ ‵ (froom tyPtr l₁₂ 0) ∷ ‵ (fdies tyPtr l₁₂) ∷ ‵ (froom word l₁₁ 0) ∷ ‵ (fdies word l₁₁) ∷ ‵ (froom word l₁₀ 0) ∷ ‵ (fdies word l₁₀) ∷ ‵ (froom tyBool l₉ 0) ∷ ‵ (fdies tyBool l₉)
-        ∷ ‵ (fat fullShare word l₈ 0 (vint w64 (length ys))) ∷ ‵ (fdies word l₈) ∷ ‵ (froom tyBool l₇ 0) ∷ ‵ (fdies tyBool l₇) ∷ ‵ (fat fullShare word l₆ 0 (vint w64 (i .0))) ∷ ‵ (fdies word l₆) ∷ ‵ (fat fullShare F′.mir l₅ 0 (fval (scan (i .0)))) ∷ ‵ (fdies F′.mir l₅) ∷ ‵ (fat fullShare word l₄ 0 (vint w64 end)) ∷ ‵ (fdies word l₄)
-        ∷ ‵ (fat fullShare K′.mir l₃ 0 (wval w)) ∷ ‵ (fdies K′.mir l₃) ∷ ‵ (fat fullShare word l₂ 0 (vint w64 n)) ∷ ‵ (fdies word l₂) ∷ ‵ (fat fullShare slice l₁ 0 s) ∷ ‵ (fdies slice l₁) ∷ ‵ (froom F′.mir l₀ 0) ∷ ‵ (fdies F′.mir l₀) ∷ []
+        ∷ ‵ (froom T′.mir l₃₂ 0) ∷ ‵ (fdies T′.mir l₃₂) ∷ ‵ (froom tyPtr l₃₁ 0) ∷ ‵ (fdies tyPtr l₃₁) ∷ ‵ (froom word l₃₀ 0) ∷ ‵ (fdies word l₃₀) ∷ ‵ (froom tyBool l₂₉ 0) ∷ ‵ (fdies tyBool l₂₉) ∷ ‵ (froom T′.mir l₂₈ 0) ∷ ‵ (fdies T′.mir l₂₈)
+        ∷ ‵ (froom tyPtr l₂₇ 0) ∷ ‵ (fdies tyPtr l₂₇) ∷ ‵ (froom word l₂₆ 0) ∷ ‵ (fdies word l₂₆) ∷ ‵ (froom T′.mir l₂₅ 0) ∷ ‵ (fdies T′.mir l₂₅) ∷ ‵ (froom tyPtr l₂₄ 0) ∷ ‵ (fdies tyPtr l₂₄) ∷ ‵ (froom word l₂₃ 0) ∷ ‵ (fdies word l₂₃)
+        ∷ ‵ (froom word l₂₂ 0) ∷ ‵ (fdies word l₂₂) ∷ ‵ (froom T′.mir l₂₁ 0) ∷ ‵ (fdies T′.mir l₂₁) ∷ ‵ (froom tyPtr l₂₀ 0) ∷ ‵ (fdies tyPtr l₂₀) ∷ ‵ (froom word l₁₉ 0) ∷ ‵ (fdies word l₁₉) ∷ ‵ (froom word l₁₈ 0) ∷ ‵ (fdies word l₁₈)
+        ∷ ‵ (froom T′.mir l₁₇ 0) ∷ ‵ (fdies T′.mir l₁₇) ∷ ‵ (froom tyPtr l₁₆ 0) ∷ ‵ (fdies tyPtr l₁₆) ∷ ‵ (froom word l₁₅ 0) ∷ ‵ (fdies word l₁₅) ∷ ‵ (froom word l₁₄ 0) ∷ ‵ (fdies word l₁₄) ∷ ‵ (froom T′.mir l₁₃ 0) ∷ ‵ (fdies T′.mir l₁₃)
+        ∷ ‵ (froom tyPtr l₁₂ 0) ∷ ‵ (fdies tyPtr l₁₂) ∷ ‵ (froom word l₁₁ 0) ∷ ‵ (fdies word l₁₁) ∷ ‵ (froom word l₁₀ 0) ∷ ‵ (fdies word l₁₀) ∷ ‵ (froom tyBool l₉ 0) ∷ ‵ (fdies tyBool l₉) ∷ ‵ (fat fullShare word l₈ 0 (vint w64 (length ys))) ∷ ‵ (fdies word l₈)
+        ∷ ‵ (froom tyBool l₇ 0) ∷ ‵ (fdies tyBool l₇) ∷ ‵ (fat fullShare word l₆ 0 (vint w64 (i .0))) ∷ ‵ (fdies word l₆) ∷ ‵ (fat fullShare word l₅ 0 (vint w64 (scan (i .0)))) ∷ ‵ (fdies word l₅) ∷ ‵ (fat fullShare word l₄ 0 (vint w64 end)) ∷ ‵ (fdies word l₄) ∷ ‵ (fat fullShare K′.mir l₃ 0 (wval w)) ∷ ‵ (fdies K′.mir l₃)
+        ∷ ‵ (fat fullShare word l₂ 0 (vint w64 n)) ∷ ‵ (fdies word l₂) ∷ ‵ (fat fullShare slice l₁ 0 s) ∷ ‵ (fdies slice l₁) ∷ ‵ (froom F′.mir l₀ 0) ∷ ‵ (fdies F′.mir l₀) ∷ []
 
     abbrev Between : Upto → Bool → List (Item 𝓤)
     Between i t = ‵ (row R q′ ys b o) ∷ ‵ (fobor κ q (arr-parts (shares R) (length ys) .part q′ ys b o)) ∷ ‵ (fshr-bor κ (λ t. arr-parts (shares R) (length ys) .part t ys b o))
         ∷ ‵ (fres γ (codedHoleys R .code (heres R ys))) ∷ ‵ (at-slice R x (s ∷ []))
-        ∷ ‵ (froom T′.mir l₂₈ 0) ∷ ‵ (fdies T′.mir l₂₈) ∷ ‵ (froom tyPtr l₂₇ 0) ∷ ‵ (fdies tyPtr l₂₇) ∷ ‵ (froom word l₂₆ 0) ∷ ‵ (fdies word l₂₆) ∷ ‵ (froom T′.mir l₂₅ 0) ∷ ‵ (fdies T′.mir l₂₅) ∷ ‵ (froom tyPtr l₂₄ 0) ∷ ‵ (fdies tyPtr l₂₄)
-        ∷ ‵ (froom word l₂₃ 0) ∷ ‵ (fdies word l₂₃) ∷ ‵ (froom word l₂₂ 0) ∷ ‵ (fdies word l₂₂) ∷ ‵ (froom T′.mir l₂₁ 0) ∷ ‵ (fdies T′.mir l₂₁) ∷ ‵ (froom tyPtr l₂₀ 0) ∷ ‵ (fdies tyPtr l₂₀) ∷ ‵ (froom word l₁₉ 0) ∷ ‵ (fdies word l₁₉)
-        ∷ ‵ (froom word l₁₈ 0) ∷ ‵ (fdies word l₁₈) ∷ ‵ (froom T′.mir l₁₇ 0) ∷ ‵ (fdies T′.mir l₁₇) ∷ ‵ (froom tyPtr l₁₆ 0) ∷ ‵ (fdies tyPtr l₁₆) ∷ ‵ (froom word l₁₅ 0) ∷ ‵ (fdies word l₁₅) ∷ ‵ (froom word l₁₄ 0) ∷ ‵ (fdies word l₁₄)
-        ∷ ‵ (froom T′.mir l₁₃ 0) ∷ ‵ (fdies T′.mir l₁₃) ∷ ‵ (froom tyPtr l₁₂ 0) ∷ ‵ (fdies tyPtr l₁₂) ∷ ‵ (froom word l₁₁ 0) ∷ ‵ (fdies word l₁₁) ∷ ‵ (froom word l₁₀ 0) ∷ ‵ (fdies word l₁₀) ∷ ‵ (froom tyBool l₉ 0) ∷ ‵ (fdies tyBool l₉)
-        ∷ ‵ (fat fullShare word l₈ 0 (vint w64 (length ys))) ∷ ‵ (fdies word l₈) ∷ ‵ (fat fullShare tyBool l₇ 0 (vbool t)) ∷ ‵ (fdies tyBool l₇) ∷ ‵ (fat fullShare word l₆ 0 (vint w64 (i .0))) ∷ ‵ (fdies word l₆) ∷ ‵ (fat fullShare F′.mir l₅ 0 (fval (scan (i .0)))) ∷ ‵ (fdies F′.mir l₅) ∷ ‵ (fat fullShare word l₄ 0 (vint w64 end)) ∷ ‵ (fdies word l₄)
-        ∷ ‵ (fat fullShare K′.mir l₃ 0 (wval w)) ∷ ‵ (fdies K′.mir l₃) ∷ ‵ (fat fullShare word l₂ 0 (vint w64 n)) ∷ ‵ (fdies word l₂) ∷ ‵ (fat fullShare slice l₁ 0 s) ∷ ‵ (fdies slice l₁) ∷ ‵ (froom F′.mir l₀ 0) ∷ ‵ (fdies F′.mir l₀) ∷ []
+        ∷ ‵ (froom T′.mir l₃₂ 0) ∷ ‵ (fdies T′.mir l₃₂) ∷ ‵ (froom tyPtr l₃₁ 0) ∷ ‵ (fdies tyPtr l₃₁) ∷ ‵ (froom word l₃₀ 0) ∷ ‵ (fdies word l₃₀) ∷ ‵ (froom tyBool l₂₉ 0) ∷ ‵ (fdies tyBool l₂₉) ∷ ‵ (froom T′.mir l₂₈ 0) ∷ ‵ (fdies T′.mir l₂₈)
+        ∷ ‵ (froom tyPtr l₂₇ 0) ∷ ‵ (fdies tyPtr l₂₇) ∷ ‵ (froom word l₂₆ 0) ∷ ‵ (fdies word l₂₆) ∷ ‵ (froom T′.mir l₂₅ 0) ∷ ‵ (fdies T′.mir l₂₅) ∷ ‵ (froom tyPtr l₂₄ 0) ∷ ‵ (fdies tyPtr l₂₄) ∷ ‵ (froom word l₂₃ 0) ∷ ‵ (fdies word l₂₃)
+        ∷ ‵ (froom word l₂₂ 0) ∷ ‵ (fdies word l₂₂) ∷ ‵ (froom T′.mir l₂₁ 0) ∷ ‵ (fdies T′.mir l₂₁) ∷ ‵ (froom tyPtr l₂₀ 0) ∷ ‵ (fdies tyPtr l₂₀) ∷ ‵ (froom word l₁₉ 0) ∷ ‵ (fdies word l₁₉) ∷ ‵ (froom word l₁₈ 0) ∷ ‵ (fdies word l₁₈)
+        ∷ ‵ (froom T′.mir l₁₇ 0) ∷ ‵ (fdies T′.mir l₁₇) ∷ ‵ (froom tyPtr l₁₆ 0) ∷ ‵ (fdies tyPtr l₁₆) ∷ ‵ (froom word l₁₅ 0) ∷ ‵ (fdies word l₁₅) ∷ ‵ (froom word l₁₄ 0) ∷ ‵ (fdies word l₁₄) ∷ ‵ (froom T′.mir l₁₃ 0) ∷ ‵ (fdies T′.mir l₁₃)
+        ∷ ‵ (froom tyPtr l₁₂ 0) ∷ ‵ (fdies tyPtr l₁₂) ∷ ‵ (froom word l₁₁ 0) ∷ ‵ (fdies word l₁₁) ∷ ‵ (froom word l₁₀ 0) ∷ ‵ (fdies word l₁₀) ∷ ‵ (froom tyBool l₉ 0) ∷ ‵ (fdies tyBool l₉) ∷ ‵ (fat fullShare word l₈ 0 (vint w64 (length ys))) ∷ ‵ (fdies word l₈)
+        ∷ ‵ (fat fullShare tyBool l₇ 0 (vbool t)) ∷ ‵ (fdies tyBool l₇) ∷ ‵ (fat fullShare word l₆ 0 (vint w64 (i .0))) ∷ ‵ (fdies word l₆) ∷ ‵ (fat fullShare word l₅ 0 (vint w64 (scan (i .0)))) ∷ ‵ (fdies word l₅) ∷ ‵ (fat fullShare word l₄ 0 (vint w64 end)) ∷ ‵ (fdies word l₄) ∷ ‵ (fat fullShare K′.mir l₃ 0 (wval w)) ∷ ‵ (fdies K′.mir l₃)
+        ∷ ‵ (fat fullShare word l₂ 0 (vint w64 n)) ∷ ‵ (fdies word l₂) ∷ ‵ (fat fullShare slice l₁ 0 s) ∷ ‵ (fdies slice l₁) ∷ ‵ (froom F′.mir l₀ 0) ∷ ‵ (fdies F′.mir l₀) ∷ []
 
     -- a turn's postcondition: it ends nearer to `end`, or the loop is left and the rest of the body runs
     abbrev Turned : Upto → Out → SProp 𝓤
@@ -304,19 +314,22 @@ module _ {M : Type 1} (𝓤 : URA M) (H : Heap 𝓤) (A : Atoms 𝓤) (W : Given
     scaled : (j : ℕ) → j < end → Fits w64 (j * 32)
     scaled j h = scaled-fits j (length ys) 32 (within j h) (room .1)
 
-    left-fits : (i : Upto) → Fits w64 (scan (i .0) .stop - i .0)
-    left-fits i = record { fits = i-fits (scan (i .0) .stop - i .0) (let k = stop-within (picks w) ys end (i .0) (i .1 .0) in omega (arith, k)) }
+    stop-fits : (i : Upto) → scan (i .0) < 2 ^ 64
+    stop-fits i = i-fits (scan (i .0)) (stop-within (picks w) ys end (i .0) (i .1))
+
+    left-fits : (i : Upto) → Fits w64 (scan (i .0) - i .0)
+    left-fits i = record { fits = i-fits (scan (i .0) - i .0) (let k = stop-within (picks w) ys end (i .0) (i .1) in omega (arith, k)) }
 
     parts : (i : Upto) (t : Bool) → t ≡ passed (i .0) → T t → (picks w (elem (i .0)) ≡ false) × ((picks w (elem (i .0 + 1)) ≡ false) × ((picks w (elem (i .0 + 2)) ≡ false) × (picks w (elem (i .0 + 3)) ≡ false)))
     parts i t e y = four-parts (elem (i .0)) (elem (i .0 + 1)) (elem (i .0 + 2)) (elem (i .0 + 3)) w (sym e ∙ is-true t y)
 
     -- a turn is made where i lies below the stop
-    module _ (i : Upto) (less : T (ltb (i .0) (scan (i .0) .stop))) where
-      below-stop : i .0 ≤ scan (i .0) .stop
-      below-stop = let h = ltb→lt (i .0) (scan (i .0) .stop) less in omega (arith, h)
+    module _ (i : Upto) (less : T (ltb (i .0) (scan (i .0)))) where
+      below-stop : i .0 ≤ scan (i .0)
+      below-stop = let h = ltb→lt (i .0) (scan (i .0)) less in omega (arith, h)
 
       in-end : i .0 < end
-      in-end = let h = ltb→lt (i .0) (scan (i .0) .stop) less in let k = stop-within (picks w) ys end (i .0) (i .1 .0) in omega (arith, h, k)
+      in-end = let h = ltb→lt (i .0) (scan (i .0)) less in let k = stop-within (picks w) ys end (i .0) (i .1) in omega (arith, h, k)
 
       one-left : i .0 + 1 ≤ end
       one-left = add-one-le in-end
@@ -325,11 +338,11 @@ module _ {M : Type 1} (𝓤 : URA M) (H : Heap 𝓤) (A : Atoms 𝓤) (W : Given
       one-fits = record { fits = i-fits (i .0 + 1) one-left }
 
       next : stepped (i .0) ≡ scan (i .0 + 1)
-      next = found-next (picks w) ys end (i .0) (ltb→lt (i .0) (scan (i .0) .stop) less)
+      next = stop-next (picks w) ys end (i .0) (ltb→lt (i .0) (scan (i .0)) less)
 
-      module _ (four : T (leb 4 (scan (i .0) .stop - i .0))) where
+      module _ (four : T (leb 4 (scan (i .0) - i .0))) where
         at-most : i .0 + 4 ≤ end
-        at-most = let h = leb→le 4 (scan (i .0) .stop - i .0) four in let k = stop-within (picks w) ys end (i .0) (i .1 .0) in omega (arith, h, k)
+        at-most = let h = leb→le 4 (scan (i .0) - i .0) four in let k = stop-within (picks w) ys end (i .0) (i .1) in omega (arith, h, k)
 
         four-left : (j : ℕ) → j < 4 → i .0 + j < end
         four-left j h = let k = at-most in omega (arith, h, k)
@@ -338,28 +351,28 @@ module _ {M : Type 1} (𝓤 : URA M) (H : Heap 𝓤) (A : Atoms 𝓤) (W : Given
       rest-of-turn : (t : Bool) → (T t → (i .0 + 4 ≤ end) × (scan (i .0) ≡ scan (i .0 + 4))) → Sq W (Between i t) (runs C Λ En tail (anyQ (Turned i)))
       unfolding afterTurn
       rest-of-turn t pass =
-          assigns ! (of-opd ! (load ! (from ! (stop !)) (look ! 47 refl))) (from ! (stop !)) (init ! 43 refl (tt, tt)) $
-          branches ! (load ! (from ! (stop !)) (look ! 43 refl))
-          (λ yes. assigns-last ! (bin ! (load ! (from ! (stop !)) (look ! 49 refl)) (lit ! tt) (four-fits yes)) (from ! (stop !)) (store ! 49 refl (tt, four-fits yes)) $
-          rewrite ! 51 (λ (u : Val). ‵ (fat fullShare F′.mir l₅ 0 u)) (ap fval (pass yes .1)) refl $ forget ! 47 refl $ forget ! 43 refl $
-          again ! Nearer At i (i .0 + 4, (pass yes .0, rel-at (i .0) (i .0 + 4) (pass yes .1) (i .1 .1))) (four-nearer yes))
-          (λ no. assigns ! (bin ! (load ! (from ! (stop !)) (look ! 49 refl)) (lit ! tt) (scaled (i .0) in-end)) (from ! (stop !)) (init ! 9 refl (tt, (scaled (i .0) in-end))) $
-          assigns ! (bin ! (load ! (from ! (fld ! refl (stop !))) (look-in ! 59 (sub ! 0 refl (whole !)))) (load ! (from ! (stop !)) (look ! 9 refl)) tt) (from ! (stop !)) (init ! 7 refl (tt, tt)) $
-          rewrite ! 7 (λ (p : ℕ). ‵ (fat fullShare tyPtr l₂₇ 0 (vptr b p))) (sym (place-is 32 o (i .0))) refl $
+          assigns ! (of-opd ! (load ! (from ! (stop !)) (look ! 55 refl))) (from ! (stop !)) (init ! 51 refl (tt, tt)) $
+          branches ! (load ! (from ! (stop !)) (look ! 51 refl))
+          (λ yes. assigns-last ! (bin ! (load ! (from ! (stop !)) (look ! 57 refl)) (lit ! tt) (four-fits yes)) (from ! (stop !)) (store ! 57 refl (tt, four-fits yes)) $
+          rewrite ! 59 (λ (u : ℕ). ‵ (fat fullShare word l₅ 0 (vint w64 u))) (pass yes .1) refl $ forget ! 55 refl $ forget ! 51 refl $
+          again ! Nearer At i (i .0 + 4, pass yes .0) (four-nearer yes))
+          (λ no. assigns ! (bin ! (load ! (from ! (stop !)) (look ! 57 refl)) (lit ! tt) (scaled (i .0) in-end)) (from ! (stop !)) (init ! 17 refl (tt, (scaled (i .0) in-end))) $
+          assigns ! (bin ! (load ! (from ! (fld ! refl (stop !))) (look-in ! 67 (sub ! 0 refl (whole !)))) (load ! (from ! (stop !)) (look ! 17 refl)) tt) (from ! (stop !)) (init ! 15 refl (tt, tt)) $
+          rewrite ! 15 (λ (p : ℕ). ‵ (fat fullShare tyPtr l₂₇ 0 (vptr b p))) (sym (place-is 32 o (i .0))) refl $
           elem-out ! R (Is R) (shows 𝓤 H A R) (LL.vals T.the-type T′.the-laws) (LL.tells T.the-type T′.the-laws) q′ ys (i .0) no-mark b o (within (i .0) in-end) (λ g.
-          assigns ! (of-opd ! (load ! (from ! (hop ! (look ! 9 refl) (stop !))) (look-raw ! 0 refl))) (from ! (stop !)) (init ! 7 refl (LL.lawful T.the-type T′.the-laws 𝓤 H A W .typed (elem (i .0)) _ g .0)) $
+          assigns ! (of-opd ! (load ! (from ! (hop ! (look ! 17 refl) (stop !))) (look-raw ! 0 refl))) (from ! (stop !)) (init ! 15 refl (LL.lawful T.the-type T′.the-laws 𝓤 H A W .typed (elem (i .0)) _ g .0)) $
           elem-back ! R q′ ys (i .0) no-mark (mach (elem (i .0)) ∷ []) b o (within (i .0) in-end) $
           nothing ! $ owned ! K.the-row (Is K.the-row) (EL.makes K.the-type K′.the-plain 𝓤 H A) w _ gw $ fjoin ! $ owned ! R (Is R) (LL.makes T.the-type T′.the-plain 𝓤 H A) (elem (i .0)) _ g $ fjoin ! $
-          owned ! usize (Is usize) (uint-makes 𝓤 H A W w64) (i .0) _ (refl, i-fits (i .0) (i .1 .0)) $ fjoin ! $ owned ! Q (Is Q) (LL.makes F.the-type F′.the-plain 𝓤 H A) (scan (i .0)) _ (i .1 .1) $ fjoin ! $ nothing ! $
+          owned ! usize (Is usize) (uint-makes 𝓤 H A W w64) (i .0) _ (refl, i-fits (i .0) (i .1)) $ fjoin ! $ owned ! usize (Is usize) (uint-makes 𝓤 H A W w64) (scan (i .0)) _ (refl, stop-fits i) $ fjoin ! $ nothing ! $
           use2 W (raw (Core 𝓤 H A mem run .pre (to-core (i .0)))) (goes-core (i .0)) $
-          calls-at ! (fmOf 𝓤 H (W .laws) 𝓣) (Core 𝓤 H A mem run) known (to-core (i .0)) (and-then ! (load ! (from ! (stop !)) (look ! 52 refl)) (and-then ! (load ! (from ! (stop !)) (look ! 50 refl)) (and-then ! (load ! (from ! (stop !)) (look ! 6 refl)) (and-then ! (load ! (from ! (stop !)) (look ! 56 refl)) (no-more !))))) (λ rv.
-          use1 W (later (some (λ (r : Found). (‵ ftrue ⊛ ‵ (Q .own r (rv ∷ []))) ⊛ raw (ensured 𝓤 H A core.ended (core.clauses 𝓤 H A mem run) tt (args (i .0)) tt r)))) (id⊢ 𝓤 _) $ await ! tt $ pick ! (λ r.
-          split ! $ move ! (1 ∷ []) $ use1 W (raw (fact 𝓤 (r ≡ stepped (i .0)))) (said (i .0) r) $ heard ! (r ≡ stepped (i .0)) (λ re. split ! $ drop ! $ peeks ! Q (Is Q) (shows 𝓤 H A Q) r (rv ∷ []) (λ ri. drop ! $
-          land ! (from ! (stop !)) (store ! 51 refl (LL.lawful F.the-type F′.the-laws 𝓤 H A W .typed r _ ri .0)) $
-          rewrite ! 51 (λ (u : Val). ‵ (fat fullShare F′.mir l₅ 0 u)) (val-of (i .0 + 1) r rv (re ∙ next) ri) refl $
-          assigns-last ! (bin ! (load ! (from ! (stop !)) (look ! 49 refl)) (lit ! tt) one-fits) (from ! (stop !)) (store ! 49 refl (tt, one-fits)) $
-          forget ! 5 refl $ forget ! 7 refl $ forget ! 9 refl $ forget ! 43 refl $ forget ! 47 refl $
-          again ! Nearer At i (i .0 + 1, (one-left, rel-of (i .0 + 1) r rv (re ∙ next) ri)) (add-one-dec end (i .0) in-end)))))))
+          calls-at ! (fmOf 𝓤 H (W .laws) 𝓣) (Core 𝓤 H A mem run) known (to-core (i .0)) (and-then ! (load ! (from ! (stop !)) (look ! 60 refl)) (and-then ! (load ! (from ! (stop !)) (look ! 58 refl)) (and-then ! (load ! (from ! (stop !)) (look ! 14 refl)) (and-then ! (load ! (from ! (stop !)) (look ! 64 refl)) (no-more !))))) (λ rv.
+          use1 W (later (some (λ (r : ℕ). (‵ ftrue ⊛ ‵ (usize .own r (rv ∷ []))) ⊛ raw (ensured 𝓤 H A core.ended (core.clauses 𝓤 H A mem run) tt (args (i .0)) tt r)))) (id⊢ 𝓤 _) $ await ! tt $ pick ! (λ r.
+          split ! $ move ! (1 ∷ []) $ use1 W (raw (fact 𝓤 (r ≡ stepped (i .0)))) (said (i .0) r) $ heard ! (r ≡ stepped (i .0)) (λ re. split ! $ drop ! $ peeks ! usize (Is usize) (shows 𝓤 H A usize) r (rv ∷ []) (λ ri. drop ! $
+          land ! (from ! (stop !)) (store ! 59 refl (uint-lawful 𝓤 H A W w64 .typed r _ ri .0)) $
+          rewrite ! 59 (λ (u : Val). ‵ (fat fullShare word l₅ 0 u)) (ap only (uint-tells w64 r (rv ∷ []) ri) ∙ ap (vint w64) (re ∙ next)) refl $
+          assigns-last ! (bin ! (load ! (from ! (stop !)) (look ! 57 refl)) (lit ! tt) one-fits) (from ! (stop !)) (store ! 57 refl (tt, one-fits)) $
+          forget ! 13 refl $ forget ! 15 refl $ forget ! 17 refl $ forget ! 51 refl $ forget ! 55 refl $
+          again ! Nearer At i (i .0 + 1, one-left) (add-one-dec end (i .0) in-end)))))))
         where
           four-fits : T t → Fits w64 (i .0 + 4)
           four-fits y = record { fits = i-fits (i .0 + 4) (pass y .0) }
@@ -367,102 +380,134 @@ module _ {M : Type 1} (𝓤 : URA M) (H : Heap 𝓤) (A : Atoms 𝓤) (W : Given
           four-nearer : T t → end - (i .0 + 4) < end - i .0
           four-nearer y = let h = pass y .0 in omega (arith, h)
 
+    -- after the loop
+    ended : (i : Upto) → scan (i .0) ≤ i .0 → Sq W (At i) (runs C Λ En mir′.t-6 (atRet En Post))
+    ended i over =
+        assigns ! (bin ! (load ! (from ! (stop !)) (look ! 59 refl)) (load ! (from ! (stop !)) (look ! 61 refl)) tt) (from ! (stop !)) (init ! 11 refl (tt, tt)) $
+        first ! $ branches ! (load ! (from ! (stop !)) (look ! 11 refl))
+        (λ less.
+        assigns ! (bin ! (load ! (from ! (stop !)) (look ! 59 refl)) (lit ! tt) (scaled (scan (i .0)) (ltb→lt (scan (i .0)) end less))) (from ! (stop !)) (init ! 9 refl (tt, (scaled (scan (i .0)) (ltb→lt (scan (i .0)) end less)))) $
+        assigns ! (bin ! (load ! (from ! (fld ! refl (stop !))) (look-in ! 67 (sub ! 0 refl (whole !)))) (load ! (from ! (stop !)) (look ! 9 refl)) tt) (from ! (stop !)) (init ! 7 refl (tt, tt)) $
+        rewrite ! 7 (λ (p : ℕ). ‵ (fat fullShare tyPtr l₃₁ 0 (vptr b p))) (sym (place-is 32 o (scan (i .0)))) refl $
+        elem-out ! R (Is R) (shows 𝓤 H A R) (LL.vals T.the-type T′.the-laws) (LL.tells T.the-type T′.the-laws) q′ ys (scan (i .0)) no-mark b o (within (scan (i .0)) (ltb→lt (scan (i .0)) end less)) (λ g.
+        assigns ! (of-opd ! (load ! (from ! (hop ! (look ! 9 refl) (stop !))) (look-raw ! 0 refl))) (from ! (stop !)) (init ! 7 refl (LL.lawful T.the-type T′.the-laws 𝓤 H A W .typed (elem (scan (i .0))) _ g .0)) $
+        elem-back ! R q′ ys (scan (i .0)) no-mark (mach (elem (scan (i .0))) ∷ []) b o (within (scan (i .0)) (ltb→lt (scan (i .0)) end less)) $
+        nothing ! $ owned ! R (Is R) (LL.makes T.the-type T′.the-plain 𝓤 H A) (elem (scan (i .0))) _ g $ fjoin ! $ owned ! usize (Is usize) (uint-makes 𝓤 H A W w64) (scan (i .0)) _ (refl, stop-fits i) $ fjoin ! $ nothing ! $
+        use2 W (raw (Here 𝓤 H A mem run .pre (to-here (scan (i .0))))) (goes-here (scan (i .0))) $
+        calls-at ! (fmOf 𝓤 H (W .laws) 𝓣) (Here 𝓤 H A mem run) known-here (to-here (scan (i .0))) (and-then ! (load ! (from ! (stop !)) (look ! 60 refl)) (and-then ! (load ! (from ! (stop !)) (look ! 6 refl)) (no-more !))) (λ rv.
+        use1 W (later (some (λ (r : Found). (‵ ftrue ⊛ ‵ (Q .own r (rv ∷ []))) ⊛ raw (ensured 𝓤 H A here.ended (here.clauses 𝓤 H A mem run) tt (scan (i .0), (elem (scan (i .0)), tt)) tt r)))) (id⊢ 𝓤 _) $ await ! tt $ pick ! (λ r.
+        split ! $ move ! (1 ∷ []) $ use1 W (raw (fact 𝓤 (r ≡ found-here (scan (i .0)) (elem (scan (i .0)))))) (said-here (scan (i .0)) r) $ heard ! (r ≡ found-here (scan (i .0)) (elem (scan (i .0)))) (λ re. split ! $ drop ! $
+        peeks ! Q (Is Q) (shows 𝓤 H A Q) r (rv ∷ []) (λ ri. drop ! $
+        land ! (from ! (stop !)) (init ! 69 refl (LL.lawful F.the-type F′.the-laws 𝓤 H A W .typed r _ ri .0)) $ rewrite ! 69 (λ (u : Val). ‵ (fat fullShare F′.mir l₀ 0 u)) (ap only (LL.tells F.the-type F′.the-laws r (rv ∷ []) ri)) refl $
+        shuts-slice ! tt R q′ ys b o $
+        returns-within ! Post refl (look ! 68 refl) $ forget ! 4 refl $ forget ! 6 refl $ forget ! 8 refl $ forget ! 10 refl $ forget ! 52 refl $ forget ! 56 refl $ forget ! 58 refl $ forget ! 60 refl $ forget ! 62 refl $
+        forget ! 64 refl $ forget ! 66 refl $ forget ! 68 refl $
+        move ! (68 ∷ 69 ∷ []) $ free1 ! $ move ! (66 ∷ 67 ∷ []) $ free1 ! $ move ! (64 ∷ 65 ∷ []) $ free1 ! $ move ! (62 ∷ 63 ∷ []) $ free1 ! $ move ! (60 ∷ 61 ∷ []) $ free1 ! $ move ! (58 ∷ 59 ∷ []) $ free1 ! $
+        move ! (56 ∷ 57 ∷ []) $ free1 ! $ move ! (54 ∷ 55 ∷ []) $ free1 ! $ move ! (52 ∷ 53 ∷ []) $ free1 ! $ move ! (50 ∷ 51 ∷ []) $ free1 ! $ move ! (48 ∷ 49 ∷ []) $ free1 ! $ move ! (46 ∷ 47 ∷ []) $ free1 ! $
+        move ! (44 ∷ 45 ∷ []) $ free1 ! $ move ! (42 ∷ 43 ∷ []) $ free1 ! $ move ! (40 ∷ 41 ∷ []) $ free1 ! $ move ! (38 ∷ 39 ∷ []) $ free1 ! $ move ! (36 ∷ 37 ∷ []) $ free1 ! $ move ! (34 ∷ 35 ∷ []) $ free1 ! $
+        move ! (32 ∷ 33 ∷ []) $ free1 ! $ move ! (30 ∷ 31 ∷ []) $ free1 ! $ move ! (28 ∷ 29 ∷ []) $ free1 ! $ move ! (26 ∷ 27 ∷ []) $ free1 ! $ move ! (24 ∷ 25 ∷ []) $ free1 ! $ move ! (22 ∷ 23 ∷ []) $ free1 ! $
+        move ! (20 ∷ 21 ∷ []) $ free1 ! $ move ! (18 ∷ 19 ∷ []) $ free1 ! $ move ! (16 ∷ 17 ∷ []) $ free1 ! $ move ! (14 ∷ 15 ∷ []) $ free1 ! $ move ! (12 ∷ 13 ∷ []) $ free1 ! $ move ! (10 ∷ 11 ∷ []) $ free1 ! $
+        move ! (8 ∷ 9 ∷ []) $ free1 ! $ move ! (6 ∷ 7 ∷ []) $ free1 ! $ move ! (4 ∷ 5 ∷ []) $ free1 ! $ free0 ! $
+        move ! (2 ∷ 1 ∷ []) $ fjoin ! $ move ! (2 ∷ 0 ∷ []) $ fjoin ! $ keep ! (1 ∷ 0 ∷ []) $
+        by ! (exits r (re ∙ found-there (picks w) ys end (i .0) (i .1) over (ltb→lt (scan (i .0)) end less)) (subst (Is Q r) (LL.tells F.the-type F′.the-laws r (rv ∷ []) ri) ri))))))))
+        (λ none. skips ! $ exec ! C Λ En mir′.t-8 (atRet En Post) $ nothing ! $ nothing ! $ use2 W (raw (Start 𝓤 H A mem run .pre to-start)) goes-start $
+        calls-at ! (fmOf 𝓤 H (W .laws) 𝓣) (Start 𝓤 H A mem run) known-start to-start (no-more !) (λ rv.
+        use1 W (later (some (λ (r : Found). (‵ ftrue ⊛ ‵ (Q .own r (rv ∷ []))) ⊛ raw (ensured 𝓤 H A start.ended (start.clauses 𝓤 H A mem run) tt tt tt r)))) (id⊢ 𝓤 _) $ await ! tt $ pick ! (λ r.
+        split ! $ move ! (1 ∷ []) $ use1 W (raw (fact 𝓤 (r ≡ nothing-found))) (said-start r) $ heard ! (r ≡ nothing-found) (λ re. split ! $ drop ! $ peeks ! Q (Is Q) (shows 𝓤 H A Q) r (rv ∷ []) (λ ri. drop ! $
+        land ! (from ! (stop !)) (init ! 69 refl (LL.lawful F.the-type F′.the-laws 𝓤 H A W .typed r _ ri .0)) $ rewrite ! 69 (λ (u : Val). ‵ (fat fullShare F′.mir l₀ 0 u)) (ap only (LL.tells F.the-type F′.the-laws r (rv ∷ []) ri)) refl $
+        shuts-slice ! tt R q′ ys b o $
+        returns ! (look ! 68 refl) $ forget ! 10 refl $ forget ! 52 refl $ forget ! 56 refl $ forget ! 58 refl $ forget ! 60 refl $ forget ! 62 refl $ forget ! 64 refl $ forget ! 66 refl $ forget ! 68 refl $
+        move ! (68 ∷ 69 ∷ []) $ free1 ! $ move ! (66 ∷ 67 ∷ []) $ free1 ! $ move ! (64 ∷ 65 ∷ []) $ free1 ! $ move ! (62 ∷ 63 ∷ []) $ free1 ! $ move ! (60 ∷ 61 ∷ []) $ free1 ! $ move ! (58 ∷ 59 ∷ []) $ free1 ! $
+        move ! (56 ∷ 57 ∷ []) $ free1 ! $ move ! (54 ∷ 55 ∷ []) $ free1 ! $ move ! (52 ∷ 53 ∷ []) $ free1 ! $ move ! (50 ∷ 51 ∷ []) $ free1 ! $ move ! (48 ∷ 49 ∷ []) $ free1 ! $ move ! (46 ∷ 47 ∷ []) $ free1 ! $
+        move ! (44 ∷ 45 ∷ []) $ free1 ! $ move ! (42 ∷ 43 ∷ []) $ free1 ! $ move ! (40 ∷ 41 ∷ []) $ free1 ! $ move ! (38 ∷ 39 ∷ []) $ free1 ! $ move ! (36 ∷ 37 ∷ []) $ free1 ! $ move ! (34 ∷ 35 ∷ []) $ free1 ! $
+        move ! (32 ∷ 33 ∷ []) $ free1 ! $ move ! (30 ∷ 31 ∷ []) $ free1 ! $ move ! (28 ∷ 29 ∷ []) $ free1 ! $ move ! (26 ∷ 27 ∷ []) $ free1 ! $ move ! (24 ∷ 25 ∷ []) $ free1 ! $ move ! (22 ∷ 23 ∷ []) $ free1 ! $
+        move ! (20 ∷ 21 ∷ []) $ free1 ! $ move ! (18 ∷ 19 ∷ []) $ free1 ! $ move ! (16 ∷ 17 ∷ []) $ free1 ! $ move ! (14 ∷ 15 ∷ []) $ free1 ! $ move ! (12 ∷ 13 ∷ []) $ free1 ! $ move ! (10 ∷ 11 ∷ []) $ free1 ! $
+        move ! (8 ∷ 9 ∷ []) $ free1 ! $ move ! (6 ∷ 7 ∷ []) $ free1 ! $ move ! (4 ∷ 5 ∷ []) $ free1 ! $ free0 ! $
+        move ! (2 ∷ 1 ∷ []) $ fjoin ! $ move ! (2 ∷ 0 ∷ []) $ fjoin ! $ keep ! (1 ∷ 0 ∷ []) $
+        by ! (exits r (re ∙ found-nothing (picks w) ys end (i .0) (i .1) over (nltb→le (scan (i .0)) end none)) (subst (Is Q r) (LL.tells F.the-type F′.the-laws r (rv ∷ []) ri) ri)))))))
+
     turns : (i : Upto) → Sq W (At i) (runs C Λ En mir′.turn-1 (anyQ (Turned i)))
     unfolding afterTurn
     turns i =
-        assigns ! (bin ! (load ! (from ! (stop !)) (look ! 49 refl)) (load ! (from ! (fld ! refl (stop !))) (look-in ! 51 (sub ! 0 refl (whole !)))) tt) (from ! (stop !)) (init ! 43 refl (tt, tt)) $
-        first ! $ branches ! (load ! (from ! (stop !)) (look ! 43 refl))
+        assigns ! (bin ! (load ! (from ! (stop !)) (look ! 57 refl)) (load ! (from ! (stop !)) (look ! 59 refl)) tt) (from ! (stop !)) (init ! 51 refl (tt, tt)) $
+        first ! $ branches ! (load ! (from ! (stop !)) (look ! 51 refl))
         (λ less. skips ! $ exec ! C Λ En (rest (rest mir′.turn-1)) (anyQ (Turned i)) $
-        assigns ! (of-opd ! (false-lit !)) (from ! (stop !)) (init ! 47 refl (tt, tt)) $
-        assigns ! (bin ! (load ! (from ! (fld ! refl (stop !))) (look-in ! 51 (sub ! 0 refl (whole !)))) (load ! (from ! (stop !)) (look ! 49 refl)) (below-stop i less)) (from ! (stop !)) (init ! 41 refl (tt, left-fits i)) $
-        assigns ! (bin ! (lit ! tt) (load ! (from ! (stop !)) (look ! 41 refl)) tt) (from ! (stop !)) (store ! 43 refl (tt, tt)) $
-        first ! $ branches ! (load ! (from ! (stop !)) (look ! 43 refl))
-        (λ four. assigns ! (bin ! (load ! (from ! (stop !)) (look ! 49 refl)) (lit ! tt) (scaled (i .0) (in-end i less))) (from ! (stop !)) (init ! 39 refl (tt, (scaled (i .0) (in-end i less)))) $
-        assigns ! (bin ! (load ! (from ! (fld ! refl (stop !))) (look-in ! 59 (sub ! 0 refl (whole !)))) (load ! (from ! (stop !)) (look ! 39 refl)) tt) (from ! (stop !)) (init ! 37 refl (tt, tt)) $
-        rewrite ! 37 (λ (p : ℕ). ‵ (fat fullShare tyPtr l₁₂ 0 (vptr b p))) (sym (place-is 32 o (i .0))) refl $
+        assigns ! (of-opd ! (false-lit !)) (from ! (stop !)) (init ! 55 refl (tt, tt)) $
+        assigns ! (bin ! (load ! (from ! (stop !)) (look ! 59 refl)) (load ! (from ! (stop !)) (look ! 57 refl)) (below-stop i less)) (from ! (stop !)) (init ! 49 refl (tt, left-fits i)) $
+        assigns ! (bin ! (lit ! tt) (load ! (from ! (stop !)) (look ! 49 refl)) tt) (from ! (stop !)) (store ! 51 refl (tt, tt)) $
+        first ! $ branches ! (load ! (from ! (stop !)) (look ! 51 refl))
+        (λ four. assigns ! (bin ! (load ! (from ! (stop !)) (look ! 57 refl)) (lit ! tt) (scaled (i .0) (in-end i less))) (from ! (stop !)) (init ! 47 refl (tt, (scaled (i .0) (in-end i less)))) $
+        assigns ! (bin ! (load ! (from ! (fld ! refl (stop !))) (look-in ! 67 (sub ! 0 refl (whole !)))) (load ! (from ! (stop !)) (look ! 47 refl)) tt) (from ! (stop !)) (init ! 45 refl (tt, tt)) $
+        rewrite ! 45 (λ (p : ℕ). ‵ (fat fullShare tyPtr l₁₂ 0 (vptr b p))) (sym (place-is 32 o (i .0))) refl $
         elem-out ! R (Is R) (shows 𝓤 H A R) (LL.vals T.the-type T′.the-laws) (LL.tells T.the-type T′.the-laws) q′ ys (i .0) no-mark b o (within (i .0) (in-end i less)) (λ g0.
-        assigns ! (of-opd ! (load ! (from ! (hop ! (look ! 39 refl) (stop !))) (look-raw ! 0 refl))) (from ! (stop !)) (init ! 37 refl (LL.lawful T.the-type T′.the-laws 𝓤 H A W .typed (elem (i .0)) _ g0 .0)) $
+        assigns ! (of-opd ! (load ! (from ! (hop ! (look ! 47 refl) (stop !))) (look-raw ! 0 refl))) (from ! (stop !)) (init ! 45 refl (LL.lawful T.the-type T′.the-laws 𝓤 H A W .typed (elem (i .0)) _ g0 .0)) $
         elem-back ! R q′ ys (i .0) no-mark (mach (elem (i .0)) ∷ []) b o (within (i .0) (in-end i less)) $
-        assigns ! (bin ! (load ! (from ! (stop !)) (look ! 49 refl)) (lit ! tt) (index-fits (i .0 + 1) (four-left i less four 1 (lit< tt)))) (from ! (stop !)) (init ! 33 refl (tt, index-fits (i .0 + 1) (four-left i less four 1 (lit< tt)))) $
-        assigns ! (bin ! (load ! (from ! (stop !)) (look ! 33 refl)) (lit ! tt) (scaled (i .0 + 1) (four-left i less four 1 (lit< tt)))) (from ! (stop !)) (init ! 31 refl (tt, (scaled (i .0 + 1) (four-left i less four 1 (lit< tt))))) $
-        assigns ! (bin ! (load ! (from ! (fld ! refl (stop !))) (look-in ! 59 (sub ! 0 refl (whole !)))) (load ! (from ! (stop !)) (look ! 31 refl)) tt) (from ! (stop !)) (init ! 29 refl (tt, tt)) $
-        rewrite ! 29 (λ (p : ℕ). ‵ (fat fullShare tyPtr l₁₆ 0 (vptr b p))) (sym (place-is 32 o (i .0 + 1))) refl $
+        assigns ! (bin ! (load ! (from ! (stop !)) (look ! 57 refl)) (lit ! tt) (index-fits (i .0 + 1) (four-left i less four 1 (lit< tt)))) (from ! (stop !)) (init ! 41 refl (tt, index-fits (i .0 + 1) (four-left i less four 1 (lit< tt)))) $
+        assigns ! (bin ! (load ! (from ! (stop !)) (look ! 41 refl)) (lit ! tt) (scaled (i .0 + 1) (four-left i less four 1 (lit< tt)))) (from ! (stop !)) (init ! 39 refl (tt, (scaled (i .0 + 1) (four-left i less four 1 (lit< tt))))) $
+        assigns ! (bin ! (load ! (from ! (fld ! refl (stop !))) (look-in ! 67 (sub ! 0 refl (whole !)))) (load ! (from ! (stop !)) (look ! 39 refl)) tt) (from ! (stop !)) (init ! 37 refl (tt, tt)) $
+        rewrite ! 37 (λ (p : ℕ). ‵ (fat fullShare tyPtr l₁₆ 0 (vptr b p))) (sym (place-is 32 o (i .0 + 1))) refl $
         elem-out ! R (Is R) (shows 𝓤 H A R) (LL.vals T.the-type T′.the-laws) (LL.tells T.the-type T′.the-laws) q′ ys (i .0 + 1) no-mark b o (within (i .0 + 1) (four-left i less four 1 (lit< tt))) (λ g1.
-        assigns ! (of-opd ! (load ! (from ! (hop ! (look ! 31 refl) (stop !))) (look-raw ! 0 refl))) (from ! (stop !)) (init ! 29 refl (LL.lawful T.the-type T′.the-laws 𝓤 H A W .typed (elem (i .0 + 1)) _ g1 .0)) $
+        assigns ! (of-opd ! (load ! (from ! (hop ! (look ! 39 refl) (stop !))) (look-raw ! 0 refl))) (from ! (stop !)) (init ! 37 refl (LL.lawful T.the-type T′.the-laws 𝓤 H A W .typed (elem (i .0 + 1)) _ g1 .0)) $
         elem-back ! R q′ ys (i .0 + 1) no-mark (mach (elem (i .0 + 1)) ∷ []) b o (within (i .0 + 1) (four-left i less four 1 (lit< tt))) $
-        assigns ! (bin ! (load ! (from ! (stop !)) (look ! 49 refl)) (lit ! tt) (index-fits (i .0 + 2) (four-left i less four 2 (lit< tt)))) (from ! (stop !)) (init ! 25 refl (tt, index-fits (i .0 + 2) (four-left i less four 2 (lit< tt)))) $
-        assigns ! (bin ! (load ! (from ! (stop !)) (look ! 25 refl)) (lit ! tt) (scaled (i .0 + 2) (four-left i less four 2 (lit< tt)))) (from ! (stop !)) (init ! 23 refl (tt, (scaled (i .0 + 2) (four-left i less four 2 (lit< tt))))) $
-        assigns ! (bin ! (load ! (from ! (fld ! refl (stop !))) (look-in ! 59 (sub ! 0 refl (whole !)))) (load ! (from ! (stop !)) (look ! 23 refl)) tt) (from ! (stop !)) (init ! 21 refl (tt, tt)) $
-        rewrite ! 21 (λ (p : ℕ). ‵ (fat fullShare tyPtr l₂₀ 0 (vptr b p))) (sym (place-is 32 o (i .0 + 2))) refl $
+        assigns ! (bin ! (load ! (from ! (stop !)) (look ! 57 refl)) (lit ! tt) (index-fits (i .0 + 2) (four-left i less four 2 (lit< tt)))) (from ! (stop !)) (init ! 33 refl (tt, index-fits (i .0 + 2) (four-left i less four 2 (lit< tt)))) $
+        assigns ! (bin ! (load ! (from ! (stop !)) (look ! 33 refl)) (lit ! tt) (scaled (i .0 + 2) (four-left i less four 2 (lit< tt)))) (from ! (stop !)) (init ! 31 refl (tt, (scaled (i .0 + 2) (four-left i less four 2 (lit< tt))))) $
+        assigns ! (bin ! (load ! (from ! (fld ! refl (stop !))) (look-in ! 67 (sub ! 0 refl (whole !)))) (load ! (from ! (stop !)) (look ! 31 refl)) tt) (from ! (stop !)) (init ! 29 refl (tt, tt)) $
+        rewrite ! 29 (λ (p : ℕ). ‵ (fat fullShare tyPtr l₂₀ 0 (vptr b p))) (sym (place-is 32 o (i .0 + 2))) refl $
         elem-out ! R (Is R) (shows 𝓤 H A R) (LL.vals T.the-type T′.the-laws) (LL.tells T.the-type T′.the-laws) q′ ys (i .0 + 2) no-mark b o (within (i .0 + 2) (four-left i less four 2 (lit< tt))) (λ g2.
-        assigns ! (of-opd ! (load ! (from ! (hop ! (look ! 23 refl) (stop !))) (look-raw ! 0 refl))) (from ! (stop !)) (init ! 21 refl (LL.lawful T.the-type T′.the-laws 𝓤 H A W .typed (elem (i .0 + 2)) _ g2 .0)) $
+        assigns ! (of-opd ! (load ! (from ! (hop ! (look ! 31 refl) (stop !))) (look-raw ! 0 refl))) (from ! (stop !)) (init ! 29 refl (LL.lawful T.the-type T′.the-laws 𝓤 H A W .typed (elem (i .0 + 2)) _ g2 .0)) $
         elem-back ! R q′ ys (i .0 + 2) no-mark (mach (elem (i .0 + 2)) ∷ []) b o (within (i .0 + 2) (four-left i less four 2 (lit< tt))) $
-        assigns ! (bin ! (load ! (from ! (stop !)) (look ! 49 refl)) (lit ! tt) (index-fits (i .0 + 3) (four-left i less four 3 (lit< tt)))) (from ! (stop !)) (init ! 17 refl (tt, index-fits (i .0 + 3) (four-left i less four 3 (lit< tt)))) $
-        assigns ! (bin ! (load ! (from ! (stop !)) (look ! 17 refl)) (lit ! tt) (scaled (i .0 + 3) (four-left i less four 3 (lit< tt)))) (from ! (stop !)) (init ! 15 refl (tt, (scaled (i .0 + 3) (four-left i less four 3 (lit< tt))))) $
-        assigns ! (bin ! (load ! (from ! (fld ! refl (stop !))) (look-in ! 59 (sub ! 0 refl (whole !)))) (load ! (from ! (stop !)) (look ! 15 refl)) tt) (from ! (stop !)) (init ! 13 refl (tt, tt)) $
-        rewrite ! 13 (λ (p : ℕ). ‵ (fat fullShare tyPtr l₂₄ 0 (vptr b p))) (sym (place-is 32 o (i .0 + 3))) refl $
+        assigns ! (bin ! (load ! (from ! (stop !)) (look ! 57 refl)) (lit ! tt) (index-fits (i .0 + 3) (four-left i less four 3 (lit< tt)))) (from ! (stop !)) (init ! 25 refl (tt, index-fits (i .0 + 3) (four-left i less four 3 (lit< tt)))) $
+        assigns ! (bin ! (load ! (from ! (stop !)) (look ! 25 refl)) (lit ! tt) (scaled (i .0 + 3) (four-left i less four 3 (lit< tt)))) (from ! (stop !)) (init ! 23 refl (tt, (scaled (i .0 + 3) (four-left i less four 3 (lit< tt))))) $
+        assigns ! (bin ! (load ! (from ! (fld ! refl (stop !))) (look-in ! 67 (sub ! 0 refl (whole !)))) (load ! (from ! (stop !)) (look ! 23 refl)) tt) (from ! (stop !)) (init ! 21 refl (tt, tt)) $
+        rewrite ! 21 (λ (p : ℕ). ‵ (fat fullShare tyPtr l₂₄ 0 (vptr b p))) (sym (place-is 32 o (i .0 + 3))) refl $
         elem-out ! R (Is R) (shows 𝓤 H A R) (LL.vals T.the-type T′.the-laws) (LL.tells T.the-type T′.the-laws) q′ ys (i .0 + 3) no-mark b o (within (i .0 + 3) (four-left i less four 3 (lit< tt))) (λ g3.
-        assigns ! (of-opd ! (load ! (from ! (hop ! (look ! 15 refl) (stop !))) (look-raw ! 0 refl))) (from ! (stop !)) (init ! 13 refl (LL.lawful T.the-type T′.the-laws 𝓤 H A W .typed (elem (i .0 + 3)) _ g3 .0)) $
+        assigns ! (of-opd ! (load ! (from ! (hop ! (look ! 23 refl) (stop !))) (look-raw ! 0 refl))) (from ! (stop !)) (init ! 21 refl (LL.lawful T.the-type T′.the-laws 𝓤 H A W .typed (elem (i .0 + 3)) _ g3 .0)) $
         elem-back ! R q′ ys (i .0 + 3) no-mark (mach (elem (i .0 + 3)) ∷ []) b o (within (i .0 + 3) (four-left i less four 3 (lit< tt))) $
         nothing ! $ owned ! K.the-row (Is K.the-row) (EL.makes K.the-type K′.the-plain 𝓤 H A) w _ gw $ fjoin ! $ owned ! R (Is R) (LL.makes T.the-type T′.the-plain 𝓤 H A) (elem (i .0 + 3)) _ g3 $ fjoin ! $
         owned ! R (Is R) (LL.makes T.the-type T′.the-plain 𝓤 H A) (elem (i .0 + 2)) _ g2 $ fjoin ! $ owned ! R (Is R) (LL.makes T.the-type T′.the-plain 𝓤 H A) (elem (i .0 + 1)) _ g1 $ fjoin ! $
         owned ! R (Is R) (LL.makes T.the-type T′.the-plain 𝓤 H A) (elem (i .0)) _ g0 $ fjoin ! $ nothing ! $ use2 W (raw (Fours 𝓤 H A mem run .pre (to-fours (i .0)))) (goes-fours (i .0)) $
-        calls-at-last ! (fmOf 𝓤 H (W .laws) 𝓣) (Fours 𝓤 H A mem run) known-fours (to-fours (i .0)) (and-then ! (load ! (from ! (stop !)) (look ! 36 refl)) (and-then ! (load ! (from ! (stop !)) (look ! 28 refl)) (and-then ! (load ! (from ! (stop !)) (look ! 20 refl)) (and-then ! (load ! (from ! (stop !)) (look ! 12 refl)) (and-then ! (load ! (from ! (stop !)) (look ! 56 refl)) (no-more !)))))) (λ tv.
+        calls-at-last ! (fmOf 𝓤 H (W .laws) 𝓣) (Fours 𝓤 H A mem run) known-fours (to-fours (i .0)) (and-then ! (load ! (from ! (stop !)) (look ! 44 refl)) (and-then ! (load ! (from ! (stop !)) (look ! 36 refl)) (and-then ! (load ! (from ! (stop !)) (look ! 28 refl)) (and-then ! (load ! (from ! (stop !)) (look ! 20 refl)) (and-then ! (load ! (from ! (stop !)) (look ! 64 refl)) (no-more !)))))) (λ tv.
         use1 W (later (some (λ (t : Bool). (‵ ftrue ⊛ ‵ (bool .own t (tv ∷ []))) ⊛ raw (ensured 𝓤 H A fours.ended (fours.clauses 𝓤 H A mem run) tt (quad (i .0)) tt t)))) (id⊢ 𝓤 _) $ await ! tt $ pick ! (λ t.
         split ! $ move ! (1 ∷ []) $ use1 W (raw (fact 𝓤 (t ≡ passed (i .0)))) (said-fours (i .0) t) $ heard ! (t ≡ passed (i .0)) (λ te. split ! $ drop ! $ peeks ! bool (Is bool) (shows 𝓤 H A bool) t (tv ∷ []) (λ ti. drop ! $
-        land-last ! (from ! (stop !)) (store ! 47 refl (bool-lawful 𝓤 H A W .typed t _ ti .0)) $ rewrite ! 47 (λ (u : Val). ‵ (fat fullShare tyBool l₇ 0 u)) (ap only (bool-tells t (tv ∷ []) ti)) refl $
-        forget ! 11 refl $ forget ! 13 refl $ forget ! 15 refl $ forget ! 17 refl $ forget ! 19 refl $ forget ! 21 refl $ forget ! 23 refl $ forget ! 25 refl $ forget ! 27 refl $ forget ! 29 refl $ forget ! 31 refl $
-        forget ! 33 refl $ forget ! 35 refl $ forget ! 37 refl $ forget ! 39 refl $ forget ! 41 refl $ forget ! 43 refl $
-        exec ! C Λ En tail (anyQ (Turned i)) $ rest-of-turn i less t (λ y. (at-most i less four, found-four (picks w) ys end (i .0) (parts i t te y .0) (parts i t te y .1 .0) (parts i t te y .1 .1 .0) (parts i t te y .1 .1 .1))))))))))))
-        (λ few. skips ! $ forget ! 41 refl $ forget ! 43 refl $ exec ! C Λ En tail (anyQ (Turned i)) $ rest-of-turn i less false (λ y. absurd y)))
-        (λ over. jumps ! $ exec ! C Λ En mir′.t-6 (atRet En Post) $
-        assigns ! (of-opd ! (load ! (from ! (stop !)) (look ! 51 refl))) (from ! (stop !)) (init ! 61 refl (LL.lawful F.the-type F′.the-laws 𝓤 H A W .typed (scan (i .0)) _ (i .1 .1) .0)) $
-        shuts-slice ! tt R q′ ys b o $
-        returns ! (look ! 60 refl) $ forget ! 42 refl $ forget ! 44 refl $ forget ! 48 refl $ forget ! 50 refl $ forget ! 52 refl $ forget ! 54 refl $ forget ! 56 refl $ forget ! 58 refl $ forget ! 60 refl $
-        move ! (60 ∷ 61 ∷ []) $ free1 ! $ move ! (58 ∷ 59 ∷ []) $ free1 ! $ move ! (56 ∷ 57 ∷ []) $ free1 ! $ move ! (54 ∷ 55 ∷ []) $ free1 ! $ move ! (52 ∷ 53 ∷ []) $ free1 ! $ move ! (50 ∷ 51 ∷ []) $ free1 ! $
-        move ! (48 ∷ 49 ∷ []) $ free1 ! $ move ! (46 ∷ 47 ∷ []) $ free1 ! $ move ! (44 ∷ 45 ∷ []) $ free1 ! $ move ! (42 ∷ 43 ∷ []) $ free1 ! $ move ! (40 ∷ 41 ∷ []) $ free1 ! $ move ! (38 ∷ 39 ∷ []) $ free1 ! $
-        move ! (36 ∷ 37 ∷ []) $ free1 ! $ move ! (34 ∷ 35 ∷ []) $ free1 ! $ move ! (32 ∷ 33 ∷ []) $ free1 ! $ move ! (30 ∷ 31 ∷ []) $ free1 ! $ move ! (28 ∷ 29 ∷ []) $ free1 ! $ move ! (26 ∷ 27 ∷ []) $ free1 ! $
-        move ! (24 ∷ 25 ∷ []) $ free1 ! $ move ! (22 ∷ 23 ∷ []) $ free1 ! $ move ! (20 ∷ 21 ∷ []) $ free1 ! $ move ! (18 ∷ 19 ∷ []) $ free1 ! $ move ! (16 ∷ 17 ∷ []) $ free1 ! $ move ! (14 ∷ 15 ∷ []) $ free1 ! $
-        move ! (12 ∷ 13 ∷ []) $ free1 ! $ move ! (10 ∷ 11 ∷ []) $ free1 ! $ move ! (8 ∷ 9 ∷ []) $ free1 ! $ move ! (6 ∷ 7 ∷ []) $ free1 ! $ move ! (4 ∷ 5 ∷ []) $ free1 ! $ free0 ! $
-        move ! (2 ∷ 1 ∷ []) $ fjoin ! $ move ! (2 ∷ 0 ∷ []) $ fjoin ! $ keep ! (1 ∷ 0 ∷ []) $
-        by ! (exits (scan (i .0)) (found-end (picks w) ys end (i .0) (i .1 .0) (nltb→le (i .0) (scan (i .0) .stop) over)) (i .1 .1)))
+        land-last ! (from ! (stop !)) (store ! 55 refl (bool-lawful 𝓤 H A W .typed t _ ti .0)) $ rewrite ! 55 (λ (u : Val). ‵ (fat fullShare tyBool l₇ 0 u)) (ap only (bool-tells t (tv ∷ []) ti)) refl $
+        forget ! 19 refl $ forget ! 21 refl $ forget ! 23 refl $ forget ! 25 refl $ forget ! 27 refl $ forget ! 29 refl $ forget ! 31 refl $ forget ! 33 refl $ forget ! 35 refl $ forget ! 37 refl $ forget ! 39 refl $
+        forget ! 41 refl $ forget ! 43 refl $ forget ! 45 refl $ forget ! 47 refl $ forget ! 49 refl $ forget ! 51 refl $
+        exec ! C Λ En tail (anyQ (Turned i)) $ rest-of-turn i less t (λ y. (at-most i less four, stop-four (picks w) ys end (i .0) (parts i t te y .0) (parts i t te y .1 .0) (parts i t te y .1 .1 .0) (parts i t te y .1 .1 .1))))))))))))
+        (λ few. skips ! $ forget ! 49 refl $ forget ! 51 refl $ exec ! C Λ En tail (anyQ (Turned i)) $ rest-of-turn i less false (λ y. absurd y)))
+        (λ over. jumps ! $ forget ! 51 refl $ exec ! C Λ En mir′.t-6 (atRet En Post) $ ended i (nltb→le (i .0) (scan (i .0)) over))
 
     -- the loop, and the rest of the body
-    looped : (made : Is Q (scan 0) (fval (scan 0) ∷ [])) → Sq W (At (0, (zero-le, made))) (runs C Λ En mir′.t-5 (atRet En Post))
-    looped made = first ! $ blocks ! $ loops ! 𝓣 Nearer Nearer-wf At turns (0, (zero-le, made))
+    looped : Sq W (At (0, zero-le)) (runs C Λ En mir′.t-5 (atRet En Post))
+    looped = first ! $ blocks ! $ loops ! 𝓣 Nearer Nearer-wf At turns (0, zero-le)
 
   -- the MIR up to the loop
-  walk : (𝓣 : Tables 𝓤 H) → Triple 𝓤 (𝓣 .C #mark-registry·smaller) (Small 𝓤 H A mem run) → Triple 𝓤 (𝓣 .C #mark-registry·nothing-found) (Start 𝓤 H A mem run) → Triple 𝓤 (𝓣 .C #mark-registry·see) (Core 𝓤 H A mem run) → Triple 𝓤 (𝓣 .C #mark-registry·none-wanted) (Fours 𝓤 H A mem run) → ent 𝓤 (onEntry 𝓤 H A find.signature (κ, tt) (q, tt) a at)
+  walk : (𝓣 : Tables 𝓤 H) → Triple 𝓤 (𝓣 .C #mark-registry·smaller) (Small 𝓤 H A mem run) → Triple 𝓤 (𝓣 .C #mark-registry·nothing-found) (Start 𝓤 H A mem run) → Triple 𝓤 (𝓣 .C #mark-registry·see) (Core 𝓤 H A mem run) → Triple 𝓤 (𝓣 .C #mark-registry·none-wanted) (Fours 𝓤 H A mem run) → Triple 𝓤 (𝓣 .C #mark-registry·found-here) (Here 𝓤 H A mem run) → ent 𝓤 (onEntry 𝓤 H A find.signature (κ, tt) (q, tt) a at)
       (WpFn 𝓤 H (𝓣 .C) (𝓣 .Λ) code.function (s ∷ vint w64 n ∷ wval w ∷ []) Post)
-  walk 𝓣 known-small known-start known known-fours =
+  walk 𝓣 known-small known-start known known-fours known-here =
       qed W ((‵ (flft κ q) ⊛ ‵ ftrue) ∷ ‵ (owns (ShrSlice (named 0) κ R ∷ usize ∷ K.the-row ∷ []) a at) ∷ []) ∵ enter ! (𝓣 .C) (𝓣 .Λ) code.function (s ∷ vint w64 n ∷ wval w ∷ []) _ $
       alloc1 ! (λ l₀. alloc1 ! (λ l₁. alloc1 ! (λ l₂. alloc1 ! (λ l₃. alloc1 ! (λ l₄. alloc1 ! (λ l₅. alloc1 ! (λ l₆. alloc1 ! (λ l₇. alloc1 ! (λ l₈. alloc1 ! (λ l₉. alloc1 ! (λ l₁₀. alloc1 ! (λ l₁₁. alloc1 ! (λ l₁₂.
       alloc1 ! (λ l₁₃. alloc1 ! (λ l₁₄. alloc1 ! (λ l₁₅. alloc1 ! (λ l₁₆. alloc1 ! (λ l₁₇. alloc1 ! (λ l₁₈. alloc1 ! (λ l₁₉. alloc1 ! (λ l₂₀. alloc1 ! (λ l₂₁. alloc1 ! (λ l₂₂. alloc1 ! (λ l₂₃. alloc1 ! (λ l₂₄. alloc1 ! (λ l₂₅.
-      alloc1 ! (λ l₂₆. alloc1 ! (λ l₂₇. alloc1 ! (λ l₂₈. alloc0 ! $ params1 ! $
-      pass1 ! (init ! 54 refl (tt, (tt, (record { fits = room .0 }, tt)))) $ pass1 ! (init ! 52 refl (tt, record { fits = gn })) $ pass1 ! (init ! 50 refl (EL.lawful K.the-type K′.the-laws 𝓤 H A W tt .typed w _ gw .0)) $ pass0 ! $
-      assigns ! (of-opd ! (load ! (from ! (fld ! refl (stop !))) (look-in ! 54 (sub ! 1 refl (whole !))))) (from ! (stop !)) (init ! 40 refl (tt, record { fits = room .0 })) $
+      alloc1 ! (λ l₂₆. alloc1 ! (λ l₂₇. alloc1 ! (λ l₂₈. alloc1 ! (λ l₂₉. alloc1 ! (λ l₃₀. alloc1 ! (λ l₃₁. alloc1 ! (λ l₃₂. alloc0 ! $ params1 ! $
+      pass1 ! (init ! 62 refl (tt, (tt, (record { fits = room .0 }, tt)))) $ pass1 ! (init ! 60 refl (tt, record { fits = gn })) $ pass1 ! (init ! 58 refl (EL.lawful K.the-type K′.the-laws 𝓤 H A W tt .typed w _ gw .0)) $ pass0 ! $
+      assigns ! (of-opd ! (load ! (from ! (fld ! refl (stop !))) (look-in ! 62 (sub ! 1 refl (whole !))))) (from ! (stop !)) (init ! 48 refl (tt, record { fits = room .0 })) $
       nothing ! $ owned ! usize (Is usize) (uint-makes 𝓤 H A W w64) (length ys) _ (refl, room .0) $ fjoin ! $ owned ! usize (Is usize) (uint-makes 𝓤 H A W w64) n _ (refl, gn) $ fjoin ! $ nothing ! $
       use2 W (raw (Small 𝓤 H A mem run .pre to-small)) goes-small $
-      calls-at ! (fmOf 𝓤 H (W .laws) 𝓣) (Small 𝓤 H A mem run) known-small to-small (and-then ! (load ! (from ! (stop !)) (look ! 53 refl)) (and-then ! (load ! (from ! (stop !)) (look ! 41 refl)) (no-more !))) (λ kv.
+      calls-at ! (fmOf 𝓤 H (W .laws) 𝓣) (Small 𝓤 H A mem run) known-small to-small (and-then ! (load ! (from ! (stop !)) (look ! 61 refl)) (and-then ! (load ! (from ! (stop !)) (look ! 49 refl)) (no-more !))) (λ kv.
       use1 W (later (some (λ (k : ℕ). (‵ ftrue ⊛ ‵ (usize .own k (kv ∷ []))) ⊛ raw (ensured 𝓤 H A small.ended (small.clauses 𝓤 H A mem run) tt (n, (length ys, tt)) tt k)))) (id⊢ 𝓤 _) $ await ! tt $ pick ! (λ k.
       split ! $ move ! (1 ∷ []) $ use1 W (raw (fact 𝓤 (k ≡ end))) (said-small k) $ heard ! (k ≡ end) (λ ke. split ! $ drop ! $ peeks ! usize (Is usize) (shows 𝓤 H A usize) k (kv ∷ []) (λ ki. drop ! $
-      land ! (from ! (stop !)) (init ! 48 refl (uint-lawful 𝓤 H A W w64 .typed k _ ki .0)) $ rewrite ! 48 (λ (u : Val). ‵ (fat fullShare word l₄ 0 u)) (ap only (uint-tells w64 k (kv ∷ []) ki) ∙ ap (vint w64) ke) refl $
-      nothing ! $ owned ! usize (Is usize) (uint-makes 𝓤 H A W w64) end _ (refl, end-fits) $ fjoin ! $ nothing ! $ use2 W (raw (Start 𝓤 H A mem run .pre to-start)) goes-start $
-      calls-at ! (fmOf 𝓤 H (W .laws) 𝓣) (Start 𝓤 H A mem run) known-start to-start (and-then ! (load ! (from ! (stop !)) (look ! 49 refl)) (no-more !)) (λ rv.
-      use1 W (later (some (λ (r : Found). (‵ ftrue ⊛ ‵ (Q .own r (rv ∷ []))) ⊛ raw (ensured 𝓤 H A start.ended (start.clauses 𝓤 H A mem run) tt (end, tt) tt r)))) (id⊢ 𝓤 _) $ await ! tt $ pick ! (λ r.
-      split ! $ move ! (1 ∷ []) $ use1 W (raw (fact 𝓤 (r ≡ nothing-found end))) (said-start r) $ heard ! (r ≡ nothing-found end) (λ re. split ! $ drop ! $ peeks ! Q (Is Q) (shows 𝓤 H A Q) r (rv ∷ []) (λ ri. drop ! $
-      land ! (from ! (stop !)) (init ! 46 refl (LL.lawful F.the-type F′.the-laws 𝓤 H A W .typed r _ ri .0)) $ rewrite ! 46 (λ (u : Val). ‵ (fat fullShare F′.mir l₅ 0 u)) (val-of 0 r rv (re ∙ found-zero (picks w) ys end) ri) refl $
-      assigns ! (of-opd ! (lit ! tt)) (from ! (stop !)) (init ! 44 refl (tt, record { fits = lit< tt })) $
-      move ! (59 ∷ []) $ fsplit ! $ fsplit ! $ move ! (1 ∷ []) $ fsplit ! $ move ! (62 ∷ []) $ split ! $ move ! (3 ∷ 0 ∷ []) $
+      land ! (from ! (stop !)) (init ! 56 refl (uint-lawful 𝓤 H A W w64 .typed k _ ki .0)) $ rewrite ! 56 (λ (u : Val). ‵ (fat fullShare word l₄ 0 u)) (ap only (uint-tells w64 k (kv ∷ []) ki) ∙ ap (vint w64) ke) refl $
+      assigns ! (of-opd ! (load ! (from ! (stop !)) (look ! 56 refl))) (from ! (stop !)) (init ! 54 refl (tt, record { fits = end-fits })) $ rewrite ! 54 (λ (u : ℕ). ‵ (fat fullShare word l₅ 0 (vint w64 u))) (stop-zero (picks w) ys end) refl $
+      assigns ! (of-opd ! (lit ! tt)) (from ! (stop !)) (init ! 52 refl (tt, record { fits = lit< tt })) $
+      move ! (67 ∷ []) $ fsplit ! $ fsplit ! $ move ! (1 ∷ []) $ fsplit ! $ move ! (70 ∷ []) $ split ! $ move ! (3 ∷ 0 ∷ []) $
       looks-slice ! tt R (Is R) (shows 𝓤 H A R) (LL.vals T.the-type T′.the-laws) (LL.tells T.the-type T′.the-laws) (LL.copy T.the-type T′.the-copy 𝓤 H A W) ys b o (λ q′.
-      keep ! (0 ∷ 1 ∷ 2 ∷ 4 ∷ 5 ∷ 7 ∷ 8 ∷ 9 ∷ 10 ∷ 11 ∷ 12 ∷ 13 ∷ 14 ∷ 15 ∷ 16 ∷ 17 ∷ 18 ∷ 19 ∷ 20 ∷ 21 ∷ 22 ∷ 23 ∷ 24 ∷ 25 ∷ 26 ∷ 27 ∷ 28 ∷ 29 ∷ 30 ∷ 31 ∷ 32 ∷ 33 ∷ 34 ∷ 35 ∷ 36 ∷ 37 ∷ 38 ∷ 39 ∷ 40 ∷ 41 ∷ 42 ∷ 43 ∷ 44 ∷ 45 ∷ 46 ∷ 47 ∷ 48 ∷ 49 ∷ 50 ∷ 51 ∷ 52 ∷ 53 ∷ 54 ∷ 55 ∷ 56 ∷ 57 ∷ 58 ∷ 59 ∷ 60 ∷ 61 ∷ 62 ∷ 63 ∷ 64 ∷ []) $
-      looped 𝓣 known known-fours q′ l₀ l₁ l₂ l₃ l₄ l₅ l₆ l₇ l₈ l₉ l₁₀ l₁₁ l₁₂ l₁₃ l₁₄ l₁₅ l₁₆ l₁₇ l₁₈ l₁₉ l₂₀ l₂₁ l₂₂ l₂₃ l₂₄ l₂₅ l₂₆ l₂₇ l₂₈ (rel-of 0 r rv (re ∙ found-zero (picks w) ys end) ri)))))))))))))))))))))))))))))))))))))))
+      keep ! (0 ∷ 1 ∷ 2 ∷ 4 ∷ 5 ∷ 7 ∷ 8 ∷ 9 ∷ 10 ∷ 11 ∷ 12 ∷ 13 ∷ 14 ∷ 15 ∷ 16 ∷ 17 ∷ 18 ∷ 19 ∷ 20 ∷ 21 ∷ 22 ∷ 23 ∷ 24 ∷ 25 ∷ 26 ∷ 27 ∷ 28 ∷ 29 ∷ 30 ∷ 31 ∷ 32 ∷ 33 ∷ 34 ∷ 35 ∷ 36 ∷ 37 ∷ 38 ∷ 39 ∷ 40 ∷ 41 ∷ 42 ∷ 43 ∷ 44 ∷ 45 ∷ 46 ∷ 47 ∷ 48 ∷ 49 ∷ 50 ∷ 51 ∷ 52 ∷ 53 ∷ 54 ∷ 55 ∷ 56 ∷ 57 ∷ 58 ∷ 59 ∷ 60 ∷ 61 ∷ 62 ∷ 63 ∷ 64 ∷ 65 ∷ 66 ∷ 67 ∷ 68 ∷ 69 ∷ 70 ∷ 71 ∷ 72 ∷ []) $
+      looped 𝓣 known known-fours known-here known-start q′ l₀ l₁ l₂ l₃ l₄ l₅ l₆ l₇ l₈ l₉ l₁₀ l₁₁ l₁₂ l₁₃ l₁₄ l₁₅ l₁₆ l₁₇ l₁₈ l₁₉ l₂₀ l₂₁ l₂₂ l₂₃ l₂₄ l₂₅ l₂₆ l₂₇ l₂₈ l₂₉ l₃₀ l₃₁ l₃₂))))))))))))))))))))))))))))))))))))))
 
-module _ {M : Type 1} (𝓤 : URA M) (H : Heap 𝓤) (A : Atoms 𝓤) (W : Given 𝓤 H A) (mem : Memory → SProp 𝓤) (run : Routine → Fun 𝓤) (𝓣 : Tables 𝓤 H) (known-small : Triple 𝓤 (𝓣 .C #mark-registry·smaller) (Small 𝓤 H A mem run)) (known-start : Triple 𝓤 (𝓣 .C #mark-registry·nothing-found) (Start 𝓤 H A mem run)) (known : Triple 𝓤 (𝓣 .C #mark-registry·see) (Core 𝓤 H A mem run)) (known-fours : Triple 𝓤 (𝓣 .C #mark-registry·none-wanted) (Fours 𝓤 H A mem run)) where
+module _ {M : Type 1} (𝓤 : URA M) (H : Heap 𝓤) (A : Atoms 𝓤) (W : Given 𝓤 H A) (mem : Memory → SProp 𝓤) (run : Routine → Fun 𝓤) (𝓣 : Tables 𝓤 H) (known-small : Triple 𝓤 (𝓣 .C #mark-registry·smaller) (Small 𝓤 H A mem run)) (known-start : Triple 𝓤 (𝓣 .C #mark-registry·nothing-found) (Start 𝓤 H A mem run)) (known : Triple 𝓤 (𝓣 .C #mark-registry·see) (Core 𝓤 H A mem run)) (known-fours : Triple 𝓤 (𝓣 .C #mark-registry·none-wanted) (Fours 𝓤 H A mem run)) (known-here : Triple 𝓤 (𝓣 .C #mark-registry·found-here) (Here 𝓤 H A mem run)) where
   find-walks : Walks 𝓤 H A find.ended stayed (WpFn 𝓤 H (𝓣 .C) (𝓣 .Λ) code.function) (find.clauses 𝓤 H A mem run)
   find-walks = walked 𝓤 H A find.ended stayed (find.clauses 𝓤 H A mem run) (WpFn 𝓤 H (𝓣 .C) (𝓣 .Λ) code.function) (λ κs. (slice-vals, (uint-vals w64, (EL.vals K.the-type K′.the-laws, tt)))) (λ κs. (shr-slice-tells (named 0) (κs .0) R, (uint-tells w64, (EL.tells K.the-type K′.the-laws, tt))))
       (λ κs qs bounds a g are. via 𝓤 _ (fst∗ 𝓤 _ (emp 𝓤))
-      (walk 𝓤 H A W mem run (κs .0) (qs .0) (a .0 .ptr .0) (a .0 .ptr .1) (a .0 .name) (a .0 .now) (a .1 .0) (a .1 .1 .0) (are .1 .0 .1) (are .1 .1 .0) (are .0 .0 .1) 𝓣 known-small known-start known known-fours))
+      (walk 𝓤 H A W mem run (κs .0) (qs .0) (a .0 .ptr .0) (a .0 .ptr .1) (a .0 .name) (a .0 .now) (a .1 .0) (a .1 .1 .0) (are .1 .0 .1) (are .1 .1 .0) (are .0 .0 .1) 𝓣 known-small known-start known known-fours known-here))
 
   find-meets : Meets 𝓤 H A find.signature (WpFn 𝓤 H (𝓣 .C) (𝓣 .Λ) code.function) (find.spec 𝓤 H A mem run)
   find-meets =
@@ -478,4 +523,5 @@ first-record-spec 𝓤 H 𝓜 𝓖 𝓡 =
     (cited 𝓤 H (Small 𝓤 H (𝓖 .A) (𝓜 .mem) (𝓡 .run)) 𝓜 𝓡 code.env #mark-registry·smaller small-def.routine code.calls-mark-registry·smaller (small-thm.met 𝓤 H 𝓜 𝓖 𝓡))
     (cited 𝓤 H (Start 𝓤 H (𝓖 .A) (𝓜 .mem) (𝓡 .run)) 𝓜 𝓡 code.env #mark-registry·nothing-found start-def.routine code.calls-mark-registry·nothing-found (start-thm.met 𝓤 H 𝓜 𝓖 𝓡))
     (cited 𝓤 H (Core 𝓤 H (𝓖 .A) (𝓜 .mem) (𝓡 .run)) 𝓜 𝓡 code.env #mark-registry·see core-def.routine code.calls-mark-registry·see (core-thm.met 𝓤 H 𝓜 𝓖 𝓡))
-    (cited 𝓤 H (Fours 𝓤 H (𝓖 .A) (𝓜 .mem) (𝓡 .run)) 𝓜 𝓡 code.env #mark-registry·none-wanted fours-def.routine code.calls-mark-registry·none-wanted (fours-thm.met 𝓤 H 𝓜 𝓖 𝓡)))
+    (cited 𝓤 H (Fours 𝓤 H (𝓖 .A) (𝓜 .mem) (𝓡 .run)) 𝓜 𝓡 code.env #mark-registry·none-wanted fours-def.routine code.calls-mark-registry·none-wanted (fours-thm.met 𝓤 H 𝓜 𝓖 𝓡))
+    (cited 𝓤 H (Here 𝓤 H (𝓖 .A) (𝓜 .mem) (𝓡 .run)) 𝓜 𝓡 code.env #mark-registry·found-here here-def.routine code.calls-mark-registry·found-here (here-thm.met 𝓤 H 𝓜 𝓖 𝓡)))

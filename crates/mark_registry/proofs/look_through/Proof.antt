@@ -157,8 +157,8 @@ module _ {M : Type 1} (𝓤 : URA M) (H : Heap 𝓤) (A : Atoms 𝓤) (W : Given
   goes-scan : (w : Wanted) → ent 𝓤 (⋆ 𝓤 H A ((‵ (flft κ q) ⊛ ‵ ftrue) ∷ ‵ (owns (ShrSlice (named 0) κ R ∷ usize ∷ K.the-row ∷ []) (x, (n, (w, tt))) (s ∷ [], (vint w64 n ∷ [], (EL.val K.the-type K′.the-laws w ∷ [], tt)))) ∷ [])) (Scan 𝓤 H A mem run .pre (to-scan w))
   goes-scan w = qed W ((‵ (flft κ q) ⊛ ‵ ftrue) ∷ ‵ (owns (ShrSlice (named 0) κ R ∷ usize ∷ K.the-row ∷ []) (x, (n, (w, tt))) (s ∷ [], (vint w64 n ∷ [], (EL.val K.the-type K′.the-laws w ∷ [], tt)))) ∷ []) ∵ join ! $ frame ! $ done !
 
-  said-scan : (w : Wanted) → (r : Found) → ent 𝓤 (ensured 𝓤 H A scan.ended (scan.clauses 𝓤 H A mem run) (κ, tt) (x, (n, (w, tt))) tt r) (fact 𝓤 (r ≡ found-of (picks w) ys (min n (length ys)) (min n (length ys))))
-  said-scan w r = exE 𝓤 _ (λ ws. snd∗ 𝓤 (sem 𝓤 H A (lasts scan.ended (κ, tt) (x, (n, (w, tt))) ws)) (fact 𝓤 (r ≡ found-of (picks w) ys (min n (length ys)) (min n (length ys)))))
+  said-scan : (w : Wanted) → (r : Found) → ent 𝓤 (ensured 𝓤 H A scan.ended (scan.clauses 𝓤 H A mem run) (κ, tt) (x, (n, (w, tt))) tt r) (fact 𝓤 (r ≡ found-of (picks w) ys (min n (length ys))))
+  said-scan w r = exE 𝓤 _ (λ ws. snd∗ 𝓤 (sem 𝓤 H A (lasts scan.ended (κ, tt) (x, (n, (w, tt))) ws)) (fact 𝓤 (r ≡ found-of (picks w) ys (min n (length ys)))))
 
   abbrev to-told : (f : Found) → Told 𝓤 H A mem run .Ghost
   to-told f = ((tt, tt, tt, (f .place, tt), (EL.val P.the-type P′.the-laws (f .place) ∷ [], tt)), tt)
@@ -193,8 +193,8 @@ module _ {M : Type 1} (𝓤 : URA M) (H : Heap 𝓤) (A : Atoms 𝓤) (W : Given
   goes-scan2 : (v : Wanted) → ent 𝓤 (⋆ 𝓤 H A ((‵ (flft κ q) ⊛ ‵ ftrue) ∷ ‵ (owns (ShrSlice (named 0) κ R ∷ usize ∷ K.the-row ∷ []) (x, (n, (v, tt))) (s ∷ [], (vint w64 n ∷ [], (EL.val K.the-type K′.the-laws v ∷ [], tt)))) ∷ [])) (Scan 𝓤 H A mem run .pre (to-scan2 v))
   goes-scan2 v = qed W ((‵ (flft κ q) ⊛ ‵ ftrue) ∷ ‵ (owns (ShrSlice (named 0) κ R ∷ usize ∷ K.the-row ∷ []) (x, (n, (v, tt))) (s ∷ [], (vint w64 n ∷ [], (EL.val K.the-type K′.the-laws v ∷ [], tt)))) ∷ []) ∵ join ! $ frame ! $ done !
 
-  said-scan2 : (v : Wanted) → (r : Found) → ent 𝓤 (ensured 𝓤 H A scan.ended (scan.clauses 𝓤 H A mem run) (κ, tt) (x, (n, (v, tt))) tt r) (fact 𝓤 (r ≡ found-of (picks v) ys (min n (length ys)) (min n (length ys))))
-  said-scan2 v r = exE 𝓤 _ (λ ws. snd∗ 𝓤 (sem 𝓤 H A (lasts scan.ended (κ, tt) (x, (n, (v, tt))) ws)) (fact 𝓤 (r ≡ found-of (picks v) ys (min n (length ys)) (min n (length ys)))))
+  said-scan2 : (v : Wanted) → (r : Found) → ent 𝓤 (ensured 𝓤 H A scan.ended (scan.clauses 𝓤 H A mem run) (κ, tt) (x, (n, (v, tt))) tt r) (fact 𝓤 (r ≡ found-of (picks v) ys (min n (length ys))))
+  said-scan2 v r = exE 𝓤 _ (λ ws. snd∗ 𝓤 (sem 𝓤 H A (lasts scan.ended (κ, tt) (x, (n, (v, tt))) ws)) (fact 𝓤 (r ≡ found-of (picks v) ys (min n (length ys)))))
 
   abbrev to-both : (f : Found) (g : Found) → Both 𝓤 H A mem run .Ghost
   to-both f g = ((tt, tt, tt, (f, (g, tt)), (LL.val F.the-type F′.the-laws f ∷ [], (LL.val F.the-type F′.the-laws g ∷ [], tt))), tt)
@@ -207,7 +207,7 @@ module _ {M : Type 1} (𝓤 : URA M) (H : Heap 𝓤) (A : Atoms 𝓤) (W : Given
 
   module _ (C : Calls 𝓤 H) (Λ : Loops 𝓤 H) (fm : FmC 𝓤 H (W .laws) C) (known-want : Triple 𝓤 (C #mark-registry·mark-wanted) (Want 𝓤 H A mem run)) (known-scan : Triple 𝓤 (C #mark-registry·first-record) (Scan 𝓤 H A mem run)) (known-told : Triple 𝓤 (C #mark-registry·is-found) (Told 𝓤 H A mem run)) (known-alone : Triple 𝓤 (C #mark-registry·seen-alone) (Alone 𝓤 H A mem run)) (known-bare : Triple 𝓤 (C #mark-registry·empty-wanted) (Bare 𝓤 H A mem run)) (known-both : Triple 𝓤 (C #mark-registry·seen-with) (Both 𝓤 H A mem run)) where
     -- after the first scan
-    module _ (l₀ l₁ l₂ l₃ l₄ l₅ l₆ l₇ : ℕ) (w : Wanted) (f : Found) (gf : Is F.the-row f (LL.val F.the-type F′.the-laws f ∷ [])) (fe : f ≡ found-of (picks (Mark m)) ys (min n (length ys)) (min n (length ys))) (t : Bool) (te : t ≡ is-found (f .place)) where
+    module _ (l₀ l₁ l₂ l₃ l₄ l₅ l₆ l₇ : ℕ) (w : Wanted) (f : Found) (gf : Is F.the-row f (LL.val F.the-type F′.the-laws f ∷ [])) (fe : f ≡ found-of (picks (Mark m)) ys (min n (length ys))) (t : Bool) (te : t ≡ is-found (f .place)) where
       abbrev En : Env 𝓤 H
       En = (N′.mir, l₀) ∷ (slice, l₁) ∷ (word, l₂) ∷ (word, l₃) ∷ (F′.mir, l₄) ∷ (F′.mir, l₅) ∷ (K′.mir, l₆) ∷ (tyBool, l₇) ∷ []
 
@@ -228,8 +228,8 @@ module _ {M : Type 1} (𝓤 : URA M) (H : Heap 𝓤) (A : Atoms 𝓤) (W : Given
           use2 W (raw (Scan 𝓤 H A mem run .pre (to-scan2 v))) (goes-scan2 v) $
           calls-at ! fm (Scan 𝓤 H A mem run) known-scan (to-scan2 v) (and-then ! (load ! (from ! (stop !)) (look ! 14 refl)) (and-then ! (load ! (from ! (stop !)) (look ! 12 refl)) (and-then ! (load ! (from ! (stop !)) (look ! 4 refl)) (no-more !)))) (λ gv.
           use1 W (later (some (λ (g : Found). ((‵ (flft κ q) ⊛ ‵ ftrue) ⊛ ‵ (F.the-row .own g (gv ∷ []))) ⊛ raw (ensured 𝓤 H A scan.ended (scan.clauses 𝓤 H A mem run) (κ, tt) (x, (n, (v, tt))) tt g)))) (id⊢ 𝓤 _) $ await ! tt $ pick ! (λ g.
-          split ! $ move ! (1 ∷ []) $ use1 W (raw (fact 𝓤 (g ≡ found-of (picks v) ys (min n (length ys)) (min n (length ys))))) (said-scan2 v g) $ heard ! (g ≡ found-of (picks v) ys (min n (length ys)) (min n (length ys))) (λ ge. split ! $
-          move ! (1 ∷ []) $ peeks ! F.the-row (Is F.the-row) (shows 𝓤 H A F.the-row) g (gv ∷ []) (λ gi. drop ! $
+          split ! $ move ! (1 ∷ []) $ use1 W (raw (fact 𝓤 (g ≡ found-of (picks v) ys (min n (length ys))))) (said-scan2 v g) $ heard ! (g ≡ found-of (picks v) ys (min n (length ys))) (λ ge. split ! $ move ! (1 ∷ []) $
+          peeks ! F.the-row (Is F.the-row) (shows 𝓤 H A F.the-row) g (gv ∷ []) (λ gi. drop ! $
           land ! (from ! (stop !)) (init ! 6 refl (LL.lawful F.the-type F′.the-laws 𝓤 H A W .typed g _ gi .0)) $ rewrite ! 6 (λ (u : Val). ‵ (fat fullShare F′.mir l₅ 0 u)) (ap only (LL.tells F.the-type F′.the-laws g (gv ∷ []) gi)) refl $
           split ! $ move ! (1 ∷ []) $ drop ! $
           nothing ! $ owned ! F.the-row (Is F.the-row) (LL.makes F.the-type F′.the-plain 𝓤 H A) g _ (subst (Is F.the-row g) (LL.tells F.the-type F′.the-laws g (gv ∷ []) gi) gi) $ fjoin ! $
@@ -243,7 +243,7 @@ module _ {M : Type 1} (𝓤 : URA M) (H : Heap 𝓤) (A : Atoms 𝓤) (W : Given
           move ! (14 ∷ 15 ∷ []) $ free1 ! $ move ! (12 ∷ 13 ∷ []) $ free1 ! $ move ! (10 ∷ 11 ∷ []) $ free1 ! $ move ! (8 ∷ 9 ∷ []) $ free1 ! $ move ! (6 ∷ 7 ∷ []) $ free1 ! $ move ! (4 ∷ 5 ∷ []) $ free1 ! $ move ! (2 ∷ 3 ∷ []) $
           free1 ! $ free0 ! $
           keep ! (0 ∷ 1 ∷ []) $
-          by ! (exits r (re ∙ both-seen ys (min n (length ys)) m f fe t te absent g (subst (λ (u : Wanted). g ≡ found-of (picks u) ys (min n (length ys)) (min n (length ys))) ve ge)) (subst (Is N.the-row r) (LL.tells N.the-type N′.the-laws r (rv ∷ []) ri) ri))))))))))))))
+          by ! (exits r (re ∙ both-seen ys (min n (length ys)) m f fe t te absent g (subst (λ (u : Wanted). g ≡ found-of (picks u) ys (min n (length ys))) ve ge)) (subst (Is N.the-row r) (LL.tells N.the-type N′.the-laws r (rv ∷ []) ri) ri))))))))))))))
 
       branching : Sq W Now (runs C Λ En mir′.t-4 (atRet En Post))
       branching =
@@ -276,19 +276,19 @@ module _ {M : Type 1} (𝓤 : URA M) (H : Heap 𝓤) (A : Atoms 𝓤) (W : Given
         owned ! usize (Is usize) (uint-makes 𝓤 H A W w64) n _ (refl, gn) $ fjoin ! $ move ! (2 ∷ 0 ∷ []) $ fjoin ! $ nothing ! $ move ! (3 ∷ 0 ∷ []) $ join ! $ use2 W (raw (Scan 𝓤 H A mem run .pre (to-scan w))) (goes-scan w) $
         calls-at ! fm (Scan 𝓤 H A mem run) known-scan (to-scan w) (and-then ! (load ! (from ! (stop !)) (look ! 14 refl)) (and-then ! (load ! (from ! (stop !)) (look ! 12 refl)) (and-then ! (load ! (from ! (stop !)) (look ! 4 refl)) (no-more !)))) (λ fv.
         use1 W (later (some (λ (f : Found). ((‵ (flft κ q) ⊛ ‵ ftrue) ⊛ ‵ (F.the-row .own f (fv ∷ []))) ⊛ raw (ensured 𝓤 H A scan.ended (scan.clauses 𝓤 H A mem run) (κ, tt) (x, (n, (w, tt))) tt f)))) (id⊢ 𝓤 _) $ await ! tt $ pick ! (λ f.
-        split ! $ move ! (1 ∷ []) $ use1 W (raw (fact 𝓤 (f ≡ found-of (picks w) ys (min n (length ys)) (min n (length ys))))) (said-scan w f) $ heard ! (f ≡ found-of (picks w) ys (min n (length ys)) (min n (length ys))) (λ fe. split ! $
-        move ! (1 ∷ []) $ peeks ! F.the-row (Is F.the-row) (shows 𝓤 H A F.the-row) f (fv ∷ []) (λ fi. drop ! $
+        split ! $ move ! (1 ∷ []) $ use1 W (raw (fact 𝓤 (f ≡ found-of (picks w) ys (min n (length ys))))) (said-scan w f) $ heard ! (f ≡ found-of (picks w) ys (min n (length ys))) (λ fe. split ! $ move ! (1 ∷ []) $
+        peeks ! F.the-row (Is F.the-row) (shows 𝓤 H A F.the-row) f (fv ∷ []) (λ fi. drop ! $
         land ! (from ! (stop !)) (init ! 8 refl (LL.lawful F.the-type F′.the-laws 𝓤 H A W .typed f _ fi .0)) $ rewrite ! 8 (λ (u : Val). ‵ (fat fullShare F′.mir l₄ 0 u)) (ap only (LL.tells F.the-type F′.the-laws f (fv ∷ []) fi)) refl $
         split ! $ move ! (1 ∷ []) $ drop ! $
-        nothing ! $ owned ! P.the-row (Is P.the-row) (EL.makes P.the-type P′.the-plain 𝓤 H A) (f .place) _ (LL.owed F.the-type F′.the-laws f (fv ∷ []) fi .1 .0) $ fjoin ! $ nothing ! $
+        nothing ! $ owned ! P.the-row (Is P.the-row) (EL.makes P.the-type P′.the-plain 𝓤 H A) (f .place) _ (LL.owed F.the-type F′.the-laws f (fv ∷ []) fi .0) $ fjoin ! $ nothing ! $
         use2 W (raw (Told 𝓤 H A mem run .pre (to-told f))) (goes-told f) $
-        calls-at ! fm (Told 𝓤 H A mem run) known-told (to-told f) (and-then ! (load ! (from ! (fld ! refl (stop !))) (look-in ! 9 (sub ! 1 refl (whole !)))) (no-more !)) (λ tv.
+        calls-at ! fm (Told 𝓤 H A mem run) known-told (to-told f) (and-then ! (load ! (from ! (fld ! refl (stop !))) (look-in ! 9 (sub ! 0 refl (whole !)))) (no-more !)) (λ tv.
         use1 W (later (some (λ (t : Bool). (‵ ftrue ⊛ ‵ (bool .own t (tv ∷ []))) ⊛ raw (ensured 𝓤 H A told.ended (told.clauses 𝓤 H A mem run) tt (f .place, tt) tt t)))) (id⊢ 𝓤 _) $ await ! tt $ pick ! (λ t.
         split ! $ move ! (1 ∷ []) $ use1 W (raw (fact 𝓤 (t ≡ is-found (f .place)))) (said-told f t) $ heard ! (t ≡ is-found (f .place)) (λ te. split ! $ drop ! $
         peeks ! bool (Is bool) (shows 𝓤 H A bool) t (tv ∷ []) (λ ti. drop ! $
         land ! (from ! (stop !)) (init ! 2 refl (bool-lawful 𝓤 H A W .typed t _ ti .0)) $ rewrite ! 2 (λ (u : Val). ‵ (fat fullShare tyBool l₇ 0 u)) (ap only (bool-tells t (tv ∷ []) ti)) refl $
         keep ! (0 ∷ 1 ∷ 2 ∷ 3 ∷ 4 ∷ 5 ∷ 6 ∷ 7 ∷ 8 ∷ 9 ∷ 10 ∷ 11 ∷ 12 ∷ 13 ∷ 14 ∷ 15 ∷ 16 ∷ 17 ∷ []) $
-        branching l₀ l₁ l₂ l₃ l₄ l₅ l₆ l₇ w f (subst (Is F.the-row f) (LL.tells F.the-type F′.the-laws f (fv ∷ []) fi) fi) (subst (λ (u : Wanted). f ≡ found-of (picks u) ys (min n (length ys)) (min n (length ys))) we fe) t te))))))))))))))))))))
+        branching l₀ l₁ l₂ l₃ l₄ l₅ l₆ l₇ w f (subst (Is F.the-row f) (LL.tells F.the-type F′.the-laws f (fv ∷ []) fi) fi) (subst (λ (u : Wanted). f ≡ found-of (picks u) ys (min n (length ys))) we fe) t te))))))))))))))))))))
 
 module _ {M : Type 1} (𝓤 : URA M) (H : Heap 𝓤) (A : Atoms 𝓤) (W : Given 𝓤 H A) (mem : Memory → SProp 𝓤) (run : Routine → Fun 𝓤) where
   entry-walks : (C : Calls 𝓤 H) (Λ : Loops 𝓤 H) → FmC 𝓤 H (W .laws) C → Triple 𝓤 (C #mark-registry·mark-wanted) (Want 𝓤 H A mem run) → Triple 𝓤 (C #mark-registry·first-record) (Scan 𝓤 H A mem run) → Triple 𝓤 (C #mark-registry·is-found) (Told 𝓤 H A mem run) → Triple 𝓤 (C #mark-registry·seen-alone) (Alone 𝓤 H A mem run) → Triple 𝓤 (C #mark-registry·empty-wanted) (Bare 𝓤 H A mem run) → Triple 𝓤 (C #mark-registry·seen-with) (Both 𝓤 H A mem run)

@@ -41,7 +41,7 @@ use denote.Triple.Table.{entered, cited}
 use denote.Triple.Walked.{says, Stays, stay-none, stay-none-slice, walkOf, Walks, ends-at, walked, goes-none, goes-none-slice, walk-meets}
 use Rattle.wal_types.specs.declared.SharedReadMark.{SharedReadMark}
 use Rattle.wal_types.proofs.SharedReadMark as T
-use Rattle.readers.specs.Slots.{in-registry}
+use Rattle.reader_slots.specs.Slots.{in-registry}
 use Rattle.mark_registry.specs.declared.Wanted.the-variants.{Slot}
 use Rattle.mark_registry.specs.Scan.{picks, found-of, is-found}
 use Rattle.mark_registry.proofs.Scan.{shared-found}
@@ -128,8 +128,8 @@ module _ {M : Type 1} (𝓤 : URA M) (H : Heap 𝓤) (A : Atoms 𝓤) (W : Given
   goes-scan : (w : Wanted) → ent 𝓤 (⋆ 𝓤 H A ((‵ (flft κ q) ⊛ ‵ ftrue) ∷ ‵ (owns (ShrSlice (named 0) κ R ∷ usize ∷ K.the-row ∷ []) (x, (n, (w, tt))) (s ∷ [], (vint w64 n ∷ [], (EL.val K.the-type K′.the-laws w ∷ [], tt)))) ∷ [])) (Scan 𝓤 H A mem run .pre (to-scan w))
   goes-scan w = qed W ((‵ (flft κ q) ⊛ ‵ ftrue) ∷ ‵ (owns (ShrSlice (named 0) κ R ∷ usize ∷ K.the-row ∷ []) (x, (n, (w, tt))) (s ∷ [], (vint w64 n ∷ [], (EL.val K.the-type K′.the-laws w ∷ [], tt)))) ∷ []) ∵ join ! $ frame ! $ done !
 
-  said-scan : (w : Wanted) → (r : Found) → ent 𝓤 (ensured 𝓤 H A scan.ended (scan.clauses 𝓤 H A mem run) (κ, tt) (x, (n, (w, tt))) tt r) (fact 𝓤 (r ≡ found-of (picks w) ys (min n (length ys)) (min n (length ys))))
-  said-scan w r = exE 𝓤 _ (λ ws. snd∗ 𝓤 (sem 𝓤 H A (lasts scan.ended (κ, tt) (x, (n, (w, tt))) ws)) (fact 𝓤 (r ≡ found-of (picks w) ys (min n (length ys)) (min n (length ys)))))
+  said-scan : (w : Wanted) → (r : Found) → ent 𝓤 (ensured 𝓤 H A scan.ended (scan.clauses 𝓤 H A mem run) (κ, tt) (x, (n, (w, tt))) tt r) (fact 𝓤 (r ≡ found-of (picks w) ys (min n (length ys))))
+  said-scan w r = exE 𝓤 _ (λ ws. snd∗ 𝓤 (sem 𝓤 H A (lasts scan.ended (κ, tt) (x, (n, (w, tt))) ws)) (fact 𝓤 (r ≡ found-of (picks w) ys (min n (length ys)))))
 
   abbrev to-told : (f : Found) → Told 𝓤 H A mem run .Ghost
   to-told f = ((tt, tt, tt, (f .place, tt), (EL.val P.the-type P′.the-laws (f .place) ∷ [], tt)), tt)
@@ -157,20 +157,20 @@ module _ {M : Type 1} (𝓤 : URA M) (H : Heap 𝓤) (A : Atoms 𝓤) (W : Given
         owned ! usize (Is usize) (uint-makes 𝓤 H A W w64) n _ (refl, gn) $ fjoin ! $ move ! (2 ∷ 0 ∷ []) $ fjoin ! $ nothing ! $ move ! (3 ∷ 0 ∷ []) $ join ! $ use2 W (raw (Scan 𝓤 H A mem run .pre (to-scan w))) (goes-scan w) $
         calls-at ! fm (Scan 𝓤 H A mem run) known-scan (to-scan w) (and-then ! (load ! (from ! (stop !)) (look ! 10 refl)) (and-then ! (load ! (from ! (stop !)) (look ! 8 refl)) (and-then ! (load ! (from ! (stop !)) (look ! 2 refl)) (no-more !)))) (λ fv.
         use1 W (later (some (λ (f : Found). ((‵ (flft κ q) ⊛ ‵ ftrue) ⊛ ‵ (F.the-row .own f (fv ∷ []))) ⊛ raw (ensured 𝓤 H A scan.ended (scan.clauses 𝓤 H A mem run) (κ, tt) (x, (n, (w, tt))) tt f)))) (id⊢ 𝓤 _) $ await ! tt $ pick ! (λ f.
-        split ! $ move ! (1 ∷ []) $ use1 W (raw (fact 𝓤 (f ≡ found-of (picks w) ys (min n (length ys)) (min n (length ys))))) (said-scan w f) $ heard ! (f ≡ found-of (picks w) ys (min n (length ys)) (min n (length ys))) (λ fe. split ! $
-        move ! (1 ∷ []) $ peeks ! F.the-row (Is F.the-row) (shows 𝓤 H A F.the-row) f (fv ∷ []) (λ fi. drop ! $
+        split ! $ move ! (1 ∷ []) $ use1 W (raw (fact 𝓤 (f ≡ found-of (picks w) ys (min n (length ys))))) (said-scan w f) $ heard ! (f ≡ found-of (picks w) ys (min n (length ys))) (λ fe. split ! $ move ! (1 ∷ []) $
+        peeks ! F.the-row (Is F.the-row) (shows 𝓤 H A F.the-row) f (fv ∷ []) (λ fi. drop ! $
         land ! (from ! (stop !)) (init ! 4 refl (LL.lawful F.the-type F′.the-laws 𝓤 H A W .typed f _ fi .0)) $ rewrite ! 4 (λ (u : Val). ‵ (fat fullShare F′.mir l₄ 0 u)) (ap only (LL.tells F.the-type F′.the-laws f (fv ∷ []) fi)) refl $
         split ! $ move ! (1 ∷ []) $ drop ! $
-        nothing ! $ owned ! P.the-row (Is P.the-row) (EL.makes P.the-type P′.the-plain 𝓤 H A) (f .place) _ (LL.owed F.the-type F′.the-laws f (fv ∷ []) fi .1 .0) $ fjoin ! $ nothing ! $
+        nothing ! $ owned ! P.the-row (Is P.the-row) (EL.makes P.the-type P′.the-plain 𝓤 H A) (f .place) _ (LL.owed F.the-type F′.the-laws f (fv ∷ []) fi .0) $ fjoin ! $ nothing ! $
         use2 W (raw (Told 𝓤 H A mem run .pre (to-told f))) (goes-told f) $
-        calls-at ! fm (Told 𝓤 H A mem run) known-told (to-told f) (and-then ! (load ! (from ! (fld ! refl (stop !))) (look-in ! 5 (sub ! 1 refl (whole !)))) (no-more !)) (λ tv.
+        calls-at ! fm (Told 𝓤 H A mem run) known-told (to-told f) (and-then ! (load ! (from ! (fld ! refl (stop !))) (look-in ! 5 (sub ! 0 refl (whole !)))) (no-more !)) (λ tv.
         use1 W (later (some (λ (t : Bool). (‵ ftrue ⊛ ‵ (bool .own t (tv ∷ []))) ⊛ raw (ensured 𝓤 H A told.ended (told.clauses 𝓤 H A mem run) tt (f .place, tt) tt t)))) (id⊢ 𝓤 _) $ await ! tt $ pick ! (λ t.
         split ! $ move ! (1 ∷ []) $ use1 W (raw (fact 𝓤 (t ≡ is-found (f .place)))) (said-told f t) $ heard ! (t ≡ is-found (f .place)) (λ te. split ! $ drop ! $
         peeks ! bool (Is bool) (shows 𝓤 H A bool) t (tv ∷ []) (λ ti. drop ! $
         land ! (from ! (stop !)) (init ! 12 refl (bool-lawful 𝓤 H A W .typed t _ ti .0)) $ rewrite ! 12 (λ (u : Val). ‵ (fat fullShare tyBool l₀ 0 u)) (ap only (bool-tells t (tv ∷ []) ti)) refl $
         returns ! (look ! 12 refl) $ forget ! 2 refl $ forget ! 4 refl $ forget ! 6 refl $ forget ! 8 refl $ forget ! 10 refl $ forget ! 12 refl $ move ! (12 ∷ 13 ∷ []) $ free1 ! $ move ! (10 ∷ 11 ∷ []) $ free1 ! $
         move ! (8 ∷ 9 ∷ []) $ free1 ! $ move ! (6 ∷ 7 ∷ []) $ free1 ! $ move ! (4 ∷ 5 ∷ []) $ free1 ! $ move ! (2 ∷ 3 ∷ []) $ free1 ! $ free0 ! $
-        keep ! (0 ∷ 1 ∷ []) $ by ! (exits t (te ∙ shared-found ys n m f (subst (λ (k : Wanted). f ≡ found-of (picks k) ys (min n (length ys)) (min n (length ys))) we fe)) refl)))))))))))))))))))
+        keep ! (0 ∷ 1 ∷ []) $ by ! (exits t (te ∙ shared-found ys n m f (subst (λ (k : Wanted). f ≡ found-of (picks k) ys (min n (length ys))) we fe)) refl)))))))))))))))))))
 
 module _ {M : Type 1} (𝓤 : URA M) (H : Heap 𝓤) (A : Atoms 𝓤) (W : Given 𝓤 H A) (mem : Memory → SProp 𝓤) (run : Routine → Fun 𝓤) where
   entry-walks : (C : Calls 𝓤 H) (Λ : Loops 𝓤 H) → FmC 𝓤 H (W .laws) C → Triple 𝓤 (C #mark-registry·slot-wanted) (Want 𝓤 H A mem run) → Triple 𝓤 (C #mark-registry·first-record) (Scan 𝓤 H A mem run) → Triple 𝓤 (C #mark-registry·is-found) (Told 𝓤 H A mem run)

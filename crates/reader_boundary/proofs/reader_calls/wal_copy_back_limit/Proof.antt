@@ -1,4 +1,4 @@
-use Rattle.reader_floor.specs.Limit.{copy-back-limit, limit-answer}
+use Rattle.reader_limit.specs.Limit.{copy-back-limit, limit-answer}
 use Rattle.reader_replies.specs.ReaderReply.{limit-reply}
 use Rattle.reader_boundary.proofs.ReaderReplies.{limit-needs-slots, limit-told}
 use borrow.Author.Needs.{needs}

@@ -47,8 +47,8 @@ use Rattle.wal_types.proofs.SharedOwnerRecord.Laws as O′
 use Rattle.wal_types.proofs.SharedWalOwnershipMode as K
 use Rattle.wal_types.proofs.SharedWalOwnershipMode.Laws as K′
 use Rattle.shared_marks.specs.Shared.{unregister-reader-for-snapshot, SharedCall}
-use Rattle.readers.specs.Update.{release-answer}
-use Rattle.readers.specs.declared.update.Release.{Release}
+use Rattle.reader_moves.specs.Update.{release-answer}
+use Rattle.reader_moves.specs.declared.update.Release.{Release}
 use Rattle.reader_replies.specs.declared.Settings.{Settings}
 use Rattle.replies.specs.Mode.{mode-given, with-mode}
 use Rattle.replies.specs.Reply.{refusal-number}
@@ -57,8 +57,8 @@ use Rattle.reader_boundary.proofs.ReaderWalk.{R, mode-val, owner-val, o
 use Rattle.reader_boundary.proofs.ReaderReplies.{unshare-needs-slots, registry-told}
 use Rattle.reader_replies.proofs.Settings as P
 use Rattle.reader_replies.proofs.Settings.Laws as P′
-use Rattle.readers.proofs.update.Release as S
-use Rattle.readers.proofs.update.Release.Laws as S′
+use Rattle.reader_moves.proofs.update.Release as S
+use Rattle.reader_moves.proofs.update.Release.Laws as S′
 use Rattle.reader_replies.proofs.settings_of as read
 use Rattle.reader_replies.proofs.settings_of.Symbol as read-def
 use Rattle.reader_replies.proofs.settings_of.Symbol.{name as #reader-replies·settings-of}

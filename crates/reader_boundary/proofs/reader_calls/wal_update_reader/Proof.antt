@@ -44,15 +44,15 @@ use Rattle.wal_types.specs.declared.SharedOwnerRecord.{SharedOwnerRecord}
 use Rattle.wal_types.proofs.SharedOwnerRecord as O
 use Rattle.wal_types.proofs.SharedOwnerRecord.Laws as O′
 use Rattle.shared_marks.specs.Direct.{DirectMove}
-use Rattle.readers.specs.Update.{update-reader, update-answer}
-use Rattle.readers.specs.declared.update.Update.{Update}
+use Rattle.reader_moves.specs.Update.{update-reader, update-answer}
+use Rattle.reader_moves.specs.declared.update.Update.{Update}
 use Rattle.reader_replies.specs.declared.ReaderReply.{ReaderReply}
 use Rattle.reader_replies.specs.ReaderReply.{reader-reply}
 use Rattle.reader_boundary.specs.ReaderReplied.{MoveReplied}
 use Rattle.reader_boundary.proofs.ReaderWalk.{R, owner-val, reply-val, owner-of, owner-is}
 use Rattle.reader_boundary.proofs.ReaderReplies.{move-told}
-use Rattle.readers.proofs.update.Update as S
-use Rattle.readers.proofs.update.Update.Laws as S′
+use Rattle.reader_moves.proofs.update.Update as S
+use Rattle.reader_moves.proofs.update.Update.Laws as S′
 use Rattle.reader_replies.proofs.ReaderReply as Y
 use Rattle.reader_replies.proofs.ReaderReply.Laws as Y′
 use Rattle.shared_marks.proofs.direct.update_reader as core

@@ -64,8 +64,8 @@ use Rattle.mark_registry.proofs.Seen as N
 use Rattle.mark_registry.proofs.Seen.Laws as N′
 use Rattle.shared_marks.proofs.shared.UnsharePlan as P
 use Rattle.shared_marks.proofs.shared.UnsharePlan.Laws as P′
-use Rattle.readers.proofs.update.Release as S
-use Rattle.readers.proofs.update.Release.Laws as S′
+use Rattle.reader_moves.proofs.update.Release as S
+use Rattle.reader_moves.proofs.update.Release.Laws as S′
 use Rattle.mark_registry.proofs.look_through as scan
 use Rattle.mark_registry.proofs.look_through.Symbol as scan-def
 use Rattle.mark_registry.proofs.look_through.Symbol.{name as #mark-registry·look-through}
