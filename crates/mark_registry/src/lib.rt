@@ -97,6 +97,7 @@ fn none_wanted(
     !is_wanted(d, wanted)
 }
 
+// What a scan gives that finds nothing, and one that stops at a record.
 fn nothing_found() -> Found
     ensures { λ r. ⌜ r ≡ nothing-found ⌝ }
 {
@@ -162,6 +163,7 @@ fn first_record(registry: &[SharedReadMark], n: usize, wanted: Wanted) -> Found
     nothing_found()
 }
 
+// The three scans: for a mark, for a slot, for an empty record.
 fn mark_wanted(mark: u64) -> Wanted
     ensures { λ r. ⌜ r ≡ Mark mark ⌝ }
 {
@@ -189,6 +191,7 @@ fn is_found(place: Record) -> bool
     }
 }
 
+// What is seen where the mark has a record, and where it has none.
 fn seen_alone(found: Found) -> Seen
     ensures { λ r. ⌜ r ≡ seen-alone found ⌝ }
 {

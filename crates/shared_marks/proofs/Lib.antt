@@ -2,6 +2,4 @@
 pub mod Refused
 pub mod Stale
 pub mod Shares
-pub mod Planned
 pub mod Unshares
-pub mod Directed

@@ -1,4 +1,3 @@
 -- Marks that several connections of a process share.
 pub mod Shared
-pub mod Direct
 pub mod Inner

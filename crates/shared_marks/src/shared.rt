@@ -1,4 +1,4 @@
-// register_reader_for_snapshot, register_db_file_reader and unregister_reader_for_snapshot.
+// What a shared registration and a shared release do, by what is seen of the registry.
 use mark_registry::Record;
 use mark_registry::Seen;
 use reader_moves::update;
@@ -8,7 +8,6 @@ use reader_slots::slots;
 use reader_slots::slots::Slot;
 use readers::register;
 use readers::register::Register;
-use wal_types::DB_FILE_READER_FRAME;
 use wal_types::SharedOwnerRecord;
 use wal_types::SharedReadMark;
 use wal_types::SharedWalOwnershipMode;
@@ -20,7 +19,7 @@ ghost use lib.ListN.{length};
 ghost use Rattle.reader_slots.specs.Search.{some-slot};
 ghost use Rattle.reader_moves.specs.Update.{release-answer};
 ghost use Rattle.mark_registry.specs.Registry.{one-less};
-ghost use Rattle.shared_marks.specs.Shared.{register-reader-for-snapshot, register-db-file-reader, unregister-reader-for-snapshot, share-answer, SharedCall};
+ghost use Rattle.shared_marks.specs.Shared.{register-reader-for-snapshot, unregister-reader-for-snapshot, share-answer};
 ghost use Rattle.shared_marks.specs.Inner.{share-refusal, stale-cell, stale-by, no-record-answer, mark-refusal, last-refusal, PlanCall};
 
 // Taken is the reader's slot with its owner, who is the first holder, and its mark. Refused changes nothing, and neither
@@ -135,7 +134,7 @@ fn without_record(
 }
 
 // A shared registration, but for the store of its record.
-fn share_plan(
+pub fn share_plan(
     n: usize,
     mode: SharedWalOwnershipMode,
     bitmap: &mut [u64],
@@ -239,68 +238,6 @@ fn share_plan(
     }
 }
 
-// Takes a reader slot at a mark, or joins the connections of this process that share the mark already.
-pub fn register_reader_for_snapshot(
-    n: usize,
-    mode: SharedWalOwnershipMode,
-    bitmap: &mut [u64],
-    reader_frames: &mut [u64],
-    reader_owners: &mut [u64],
-    local_readers: &mut [u64],
-    registry: &mut [SharedReadMark],
-    card: &[u8],
-    owner: SharedOwnerRecord,
-    mark: u64,
-) -> Share
-    ensures { λ r. ⌜ SharedCall (register-reader-for-snapshot n mode (owner .0) mark (now (card .entry))) (now (bitmap .entry)) (now («reader_frames» .entry)) (now («reader_owners» .entry)) (now («local_readers» .entry)) (now (registry .entry)) (share-answer r) (now (bitmap .exit)) (now («reader_frames» .exit)) (now («reader_owners» .exit)) (now («local_readers» .exit)) (now (registry .exit)) ⌝ }
-{
-    let records = registry.len();
-    let seen = mark_registry::look_through(registry, n, mark);
-    let plan = share_plan(
-        n,
-        mode,
-        bitmap,
-        reader_frames,
-        reader_owners,
-        local_readers,
-        records,
-        seen,
-        card,
-        owner,
-        mark,
-    );
-    mark_registry::store_record(registry, plan.at, plan.item);
-    plan.answer
-}
-
-// Registers a reader of the database file alone. All of them in this process share one slot.
-pub fn register_db_file_reader(
-    n: usize,
-    mode: SharedWalOwnershipMode,
-    bitmap: &mut [u64],
-    reader_frames: &mut [u64],
-    reader_owners: &mut [u64],
-    local_readers: &mut [u64],
-    registry: &mut [SharedReadMark],
-    card: &[u8],
-    owner: SharedOwnerRecord,
-) -> Share
-    ensures { λ r. ⌜ SharedCall (register-db-file-reader n mode (owner .0) (now (card .entry))) (now (bitmap .entry)) (now («reader_frames» .entry)) (now («reader_owners» .entry)) (now («local_readers» .entry)) (now (registry .entry)) (share-answer r) (now (bitmap .exit)) (now («reader_frames» .exit)) (now («reader_owners» .exit)) (now («local_readers» .exit)) (now (registry .exit)) ⌝ }
-{
-    register_reader_for_snapshot(
-        n,
-        mode,
-        bitmap,
-        reader_frames,
-        reader_owners,
-        local_readers,
-        registry,
-        card,
-        owner,
-        DB_FILE_READER_FRAME,
-    )
-}
-
 // What a shared release does to the registry: one record to store, past the end if none is. And its answer.
 pub struct UnsharePlan {
     pub at: usize,
@@ -361,7 +298,7 @@ fn last_refusal(
 }
 
 // A shared release, but for the store of its record.
-fn unshare_plan(
+pub fn unshare_plan(
     n: usize,
     mode: SharedWalOwnershipMode,
     bitmap: &mut [u64],
@@ -474,38 +411,4 @@ fn unshare_plan(
         item: less,
         answer: Release::Released,
     }
-}
-
-// Releases a shared mark: a holder less, and the last one empties the slot.
-pub fn unregister_reader_for_snapshot(
-    n: usize,
-    mode: SharedWalOwnershipMode,
-    bitmap: &mut [u64],
-    reader_frames: &mut [u64],
-    reader_owners: &mut [u64],
-    local_readers: &mut [u64],
-    registry: &mut [SharedReadMark],
-    mark: u64,
-    slot: usize,
-    owner: SharedOwnerRecord,
-) -> Release
-    ensures { λ r. ⌜ SharedCall (unregister-reader-for-snapshot n mode mark slot (owner .0)) (now (bitmap .entry)) (now («reader_frames» .entry)) (now («reader_owners» .entry)) (now («local_readers» .entry)) (now (registry .entry)) (release-answer r) (now (bitmap .exit)) (now («reader_frames» .exit)) (now («reader_owners» .exit)) (now («local_readers» .exit)) (now (registry .exit)) ⌝ }
-{
-    let records = registry.len();
-    let seen = mark_registry::look_through(registry, n, mark);
-    let plan = unshare_plan(
-        n,
-        mode,
-        bitmap,
-        reader_frames,
-        reader_owners,
-        local_readers,
-        records,
-        seen,
-        mark,
-        slot,
-        owner,
-    );
-    mark_registry::store_record(registry, plan.at, plan.item);
-    plan.answer
 }

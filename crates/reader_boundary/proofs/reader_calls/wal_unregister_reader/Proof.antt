@@ -63,10 +63,10 @@ use Rattle.reader_replies.proofs.settings_of as read
 use Rattle.reader_replies.proofs.settings_of.Symbol as read-def
 use Rattle.reader_replies.proofs.settings_of.Symbol.{name as #reader-replies·settings-of}
 use Rattle.reader_replies.proofs.settings_of.Met as read-thm
-use Rattle.shared_marks.proofs.direct.unregister_reader as core
-use Rattle.shared_marks.proofs.direct.unregister_reader.Symbol as core-def
-use Rattle.shared_marks.proofs.direct.unregister_reader.Symbol.{name as #shared-marks·direct·unregister-reader}
-use Rattle.shared_marks.proofs.direct.unregister_reader.Met as core-thm
+use Rattle.registry_calls.proofs.direct.unregister_reader as core
+use Rattle.registry_calls.proofs.direct.unregister_reader.Symbol as core-def
+use Rattle.registry_calls.proofs.direct.unregister_reader.Symbol.{name as #registry-calls·direct·unregister-reader}
+use Rattle.registry_calls.proofs.direct.unregister_reader.Met as core-thm
 use Rattle.reader_replies.proofs.release_told as tell
 use Rattle.reader_replies.proofs.release_told.Symbol as tell-def
 use Rattle.reader_replies.proofs.release_told.Symbol.{name as #reader-replies·release-told}
@@ -141,7 +141,7 @@ module _ {M : Type 1} (𝓤 : URA M) (H : Heap 𝓤) (A : Atoms 𝓤) (W : Given
   abbrev Lasts : Type 0
   Lasts = Unit {0} × (Unit {0} × (List ℕ × (List ℕ × (List ℕ × (List ℕ × (Unit {0} × (Unit {0} × (Unit {0} × Unit {0}))))))))
 
-  module _ (C : Calls 𝓤 H) (Λ : Loops 𝓤 H) (fm : FmC 𝓤 H (W .laws) C) (known-read : Triple 𝓤 (C #reader-replies·settings-of) (Read 𝓤 H A mem run)) (known : Triple 𝓤 (C #shared-marks·direct·unregister-reader) (Core 𝓤 H A mem run)) (known-tell : Triple 𝓤 (C #reader-replies·release-told) (TellRelease 𝓤 H A mem run)) where
+  module _ (C : Calls 𝓤 H) (Λ : Loops 𝓤 H) (fm : FmC 𝓤 H (W .laws) C) (known-read : Triple 𝓤 (C #reader-replies·settings-of) (Read 𝓤 H A mem run)) (known : Triple 𝓤 (C #registry-calls·direct·unregister-reader) (Core 𝓤 H A mem run)) (known-tell : Triple 𝓤 (C #reader-replies·release-told) (TellRelease 𝓤 H A mem run)) where
     walk : ent 𝓤 (onEntry 𝓤 H A entry.signature κs qs a at) (WpFn 𝓤 H C Λ code.function flat Post)
     walk =
         qed W (tokens ∷ ‵ (owns (usize ∷ u32 ∷ MutSlice (named 0) κ0 u64 ∷ MutSlice (named 1) κ1 u64 ∷ MutSlice (named 2) κ2 u64 ∷ MutSlice (named 3) κ3 u64 ∷ ShrSlice (named 4) κ4 R ∷ usize ∷ u64 ∷ []) a at) ∷ []) ∵ enter ! C Λ code.function flat _ $
@@ -202,14 +202,14 @@ module _ {M : Type 1} (𝓤 : URA M) (H : Heap 𝓤) (A : Atoms 𝓤) (W : Given
         by ! (exits t (subst (Is u32 t) (uint-tells w32 t (y ∷ []) it) it) (ws .1 .1 .0) (ws .1 .1 .1 .0) (ws .1 .1 .1 .1 .0) (ws .1 .1 .1 .1 .1 .0) (registry-told refusal-number call (release-needs-slots sl ow) mo n s es (release-answer r) t et (y1 .now) (y2 .now) (y3 .now) (y4 .now) (g .now) (ws .1 .1 .0) (ws .1 .1 .1 .0) (ws .1 .1 .1 .1 .0) (ws .1 .1 .1 .1 .1 .0) (g .now) e) k1 k2 k3 k4)))))))))))))))))))))))))))))))))))))))
 
 module _ {M : Type 1} (𝓤 : URA M) (H : Heap 𝓤) (A : Atoms 𝓤) (W : Given 𝓤 H A) (mem : Memory → SProp 𝓤) (run : Routine → Fun 𝓤) where
-  entry-walks : (C : Calls 𝓤 H) (Λ : Loops 𝓤 H) → FmC 𝓤 H (W .laws) C → Triple 𝓤 (C #reader-replies·settings-of) (Read 𝓤 H A mem run) → Triple 𝓤 (C #shared-marks·direct·unregister-reader) (Core 𝓤 H A mem run) → Triple 𝓤 (C #reader-replies·release-told) (TellRelease 𝓤 H A mem run)
+  entry-walks : (C : Calls 𝓤 H) (Λ : Loops 𝓤 H) → FmC 𝓤 H (W .laws) C → Triple 𝓤 (C #reader-replies·settings-of) (Read 𝓤 H A mem run) → Triple 𝓤 (C #registry-calls·direct·unregister-reader) (Core 𝓤 H A mem run) → Triple 𝓤 (C #reader-replies·release-told) (TellRelease 𝓤 H A mem run)
       → Walks 𝓤 H A entry.ended stayed (WpFn 𝓤 H C Λ code.function) (entry.clauses 𝓤 H A mem run)
   entry-walks C Λ fm known-read known known-tell = walked 𝓤 H A entry.ended stayed (entry.clauses 𝓤 H A mem run) (WpFn 𝓤 H C Λ code.function)
       (λ κs. (uint-vals w64, (uint-vals w32, (slice-vals, (slice-vals, (slice-vals, (slice-vals, (slice-vals, (uint-vals w64, (uint-vals w64, tt)))))))))) (λ κs. (uint-tells w64, (uint-tells w32, (mut-slice-tells (named 0) (κs .0) u64, (mut-slice-tells (named 1) (κs .1 .0) u64, (mut-slice-tells (named 2) (κs .1 .1 .0) u64, (mut-slice-tells (named 3) (κs .1 .1 .1 .0) u64, (shr-slice-tells (named 4) (κs .1 .1 .1 .1 .0) R, (uint-tells w64, (uint-tells w64, tt))))))))))
       (λ κs qs bounds a g are. via 𝓤 _ (fst∗ 𝓤 _ (emp 𝓤))
       (walk 𝓤 H A W mem run (κs .0) (κs .1 .0) (κs .1 .1 .0) (κs .1 .1 .1 .0) (κs .1 .1 .1 .1 .0) (qs .0) (qs .1 .0) (qs .1 .1 .0) (qs .1 .1 .1 .0) (qs .1 .1 .1 .1 .0) (a .0) (a .1 .0) (a .1 .1 .0) (a .1 .1 .1 .0) (a .1 .1 .1 .1 .0) (a .1 .1 .1 .1 .1 .0) (a .1 .1 .1 .1 .1 .1 .0) (a .1 .1 .1 .1 .1 .1 .1 .0) (a .1 .1 .1 .1 .1 .1 .1 .1 .0) (are .0 .1) (are .1 .0 .1) (are .1 .1 .0 .0 .1) (are .1 .1 .1 .0 .0 .1) (are .1 .1 .1 .1 .0 .0 .1) (are .1 .1 .1 .1 .1 .0 .0 .1) (are .1 .1 .1 .1 .1 .1 .0 .0 .1) (are .1 .1 .1 .1 .1 .1 .1 .0 .1) (are .1 .1 .1 .1 .1 .1 .1 .1 .0 .1) C Λ fm known-read known known-tell))
 
-entry-meets : {M : Type 1} (𝓤 : URA M) (H : Heap 𝓤) (A : Atoms 𝓤) (W : Given 𝓤 H A) (mem : Memory → SProp 𝓤) (run : Routine → Fun 𝓤) (𝓣 : Tables 𝓤 H) → Triple 𝓤 (𝓣 .C #reader-replies·settings-of) (Read 𝓤 H A mem run) → Triple 𝓤 (𝓣 .C #shared-marks·direct·unregister-reader) (Core 𝓤 H A mem run) → Triple 𝓤 (𝓣 .C #reader-replies·release-told) (TellRelease 𝓤 H A mem run)
+entry-meets : {M : Type 1} (𝓤 : URA M) (H : Heap 𝓤) (A : Atoms 𝓤) (W : Given 𝓤 H A) (mem : Memory → SProp 𝓤) (run : Routine → Fun 𝓤) (𝓣 : Tables 𝓤 H) → Triple 𝓤 (𝓣 .C #reader-replies·settings-of) (Read 𝓤 H A mem run) → Triple 𝓤 (𝓣 .C #registry-calls·direct·unregister-reader) (Core 𝓤 H A mem run) → Triple 𝓤 (𝓣 .C #reader-replies·release-told) (TellRelease 𝓤 H A mem run)
     → Meets 𝓤 H A entry.signature (WpFn 𝓤 H (𝓣 .C) (𝓣 .Λ) code.function) (entry.spec 𝓤 H A mem run)
 entry-meets 𝓤 H A W mem run 𝓣 known-read known known-tell =
     walk-meets 𝓤 H A entry.ended stayed W (goes-none 𝓤 H A W 5 (λ _. usize) yes (λ κs x f. refl), (goes-none 𝓤 H A W 5 (λ _. u32) yes (λ κs x f. refl), (goes-gave-slice 𝓤 H A W 5 0 tt (plain (λ _. u64)), (goes-gave-slice 𝓤 H A W 5 1 tt (plain (λ _. u64)), (goes-gave-slice 𝓤 H A W 5 2 tt (plain (λ _. u64)), (goes-gave-slice 𝓤 H A W 5 3 tt (plain (λ _. u64)), (goes-none-slice 𝓤 H A W 5 (4 ∷ []) tt (plain (λ _. R)) yes, (goes-none 𝓤 H A W 5 (λ _. usize) yes (λ κs x f. refl), (goes-none 𝓤 H A W 5 (λ _. u64) yes (λ κs x f. refl), tt))))))))) (entry.clauses 𝓤 H A mem run)
@@ -222,5 +222,5 @@ wal-unregister-reader-spec 𝓤 H 𝓜 𝓖 𝓡 =
     (tables 𝓤 H 𝓜 𝓡 code.env .C) (tables 𝓤 H 𝓜 𝓡 code.env .Λ) #reader-boundary·reader-calls·wal-unregister-reader code.function (code.unfolded 𝓤 H 𝓜 𝓡)
     (entry-meets 𝓤 H (𝓖 .A) (givenOf 𝓤 H 𝓜 𝓖) (𝓜 .mem) (𝓡 .run) (tablesOf 𝓤 H 𝓜 (tables 𝓤 H 𝓜 𝓡 code.env))
     (cited 𝓤 H (Read 𝓤 H (𝓖 .A) (𝓜 .mem) (𝓡 .run)) 𝓜 𝓡 code.env #reader-replies·settings-of read-def.routine code.calls-reader-replies·settings-of (read-thm.met 𝓤 H 𝓜 𝓖 𝓡))
-    (cited 𝓤 H (Core 𝓤 H (𝓖 .A) (𝓜 .mem) (𝓡 .run)) 𝓜 𝓡 code.env #shared-marks·direct·unregister-reader core-def.routine code.calls-shared-marks·direct·unregister-reader (core-thm.met 𝓤 H 𝓜 𝓖 𝓡))
+    (cited 𝓤 H (Core 𝓤 H (𝓖 .A) (𝓜 .mem) (𝓡 .run)) 𝓜 𝓡 code.env #registry-calls·direct·unregister-reader core-def.routine code.calls-registry-calls·direct·unregister-reader (core-thm.met 𝓤 H 𝓜 𝓖 𝓡))
     (cited 𝓤 H (TellRelease 𝓤 H (𝓖 .A) (𝓜 .mem) (𝓡 .run)) 𝓜 𝓡 code.env #reader-replies·release-told tell-def.routine code.calls-reader-replies·release-told (tell-thm.met 𝓤 H 𝓜 𝓖 𝓡)))

@@ -43,7 +43,7 @@ use Rattle.wal_types.specs.declared.SharedReadMark.{SharedReadMark}
 use Rattle.wal_types.specs.declared.SharedOwnerRecord.{SharedOwnerRecord}
 use Rattle.wal_types.proofs.SharedOwnerRecord as O
 use Rattle.wal_types.proofs.SharedOwnerRecord.Laws as O′
-use Rattle.shared_marks.specs.Direct.{DirectMove}
+use Rattle.registry_calls.specs.Direct.{DirectMove}
 use Rattle.reader_moves.specs.Update.{update-reader, update-answer}
 use Rattle.reader_moves.specs.declared.update.Update.{Update}
 use Rattle.reader_replies.specs.declared.ReaderReply.{ReaderReply}
@@ -55,10 +55,10 @@ use Rattle.reader_moves.proofs.update.Update as S
 use Rattle.reader_moves.proofs.update.Update.Laws as S′
 use Rattle.reader_replies.proofs.ReaderReply as Y
 use Rattle.reader_replies.proofs.ReaderReply.Laws as Y′
-use Rattle.shared_marks.proofs.direct.update_reader as core
-use Rattle.shared_marks.proofs.direct.update_reader.Symbol as core-def
-use Rattle.shared_marks.proofs.direct.update_reader.Symbol.{name as #shared-marks·direct·update-reader}
-use Rattle.shared_marks.proofs.direct.update_reader.Met as core-thm
+use Rattle.registry_calls.proofs.direct.update_reader as core
+use Rattle.registry_calls.proofs.direct.update_reader.Symbol as core-def
+use Rattle.registry_calls.proofs.direct.update_reader.Symbol.{name as #registry-calls·direct·update-reader}
+use Rattle.registry_calls.proofs.direct.update_reader.Met as core-thm
 use Rattle.reader_replies.proofs.move_told as tell
 use Rattle.reader_replies.proofs.move_told.Symbol as tell-def
 use Rattle.reader_replies.proofs.move_told.Symbol.{name as #reader-replies·move-told}
@@ -152,7 +152,7 @@ module _ {M : Type 1} (𝓤 : URA M) (H : Heap 𝓤) (A : Atoms 𝓤) (W : Given
   said-tell : (r : Update) (t : ReaderReply) → ent 𝓤 (ensured 𝓤 H A tell.ended (tell.clauses 𝓤 H A mem run) tt (r, (sl, (ow, (m, tt)))) tt t) (fact 𝓤 (Told-as r t))
   said-tell r t = exE 𝓤 _ (λ ws. snd∗ 𝓤 (sem 𝓤 H A (lasts tell.ended tt (r, (sl, (ow, (m, tt)))) ws)) (fact 𝓤 (Told-as r t)))
 
-  module _ (C : Calls 𝓤 H) (Λ : Loops 𝓤 H) (fm : FmC 𝓤 H (W .laws) C) (known : Triple 𝓤 (C #shared-marks·direct·update-reader) (Core 𝓤 H A mem run)) (known-tell : Triple 𝓤 (C #reader-replies·move-told) (Tell 𝓤 H A mem run)) where
+  module _ (C : Calls 𝓤 H) (Λ : Loops 𝓤 H) (fm : FmC 𝓤 H (W .laws) C) (known : Triple 𝓤 (C #registry-calls·direct·update-reader) (Core 𝓤 H A mem run)) (known-tell : Triple 𝓤 (C #reader-replies·move-told) (Tell 𝓤 H A mem run)) where
     walk : ent 𝓤 (onEntry 𝓤 H A entry.signature κs qs a at) (WpFn 𝓤 H C Λ code.function flat Post)
     walk =
         qed W (tokens ∷ ‵ (owns (usize ∷ MutSlice (named 0) κ0 u64 ∷ ShrSlice (named 1) κ1 u64 ∷ ShrSlice (named 2) κ2 R ∷ usize ∷ u64 ∷ u64 ∷ []) a at) ∷ []) ∵ enter ! C Λ code.function flat _ $
@@ -196,14 +196,14 @@ module _ {M : Type 1} (𝓤 : URA M) (H : Heap 𝓤) (A : Atoms 𝓤) (W : Given
         by ! (exits t (subst (Is Y.the-row t) (LL.tells Y.the-type Y′.the-laws t (y ∷ []) it) it) (ws .1 .0) (move-told reader-reply call (y1 .now) (y2 .now) (g .now) (update-answer sl ow m r) t et (ws .1 .0) e) k1)))))))))))))))))))))))
 
 module _ {M : Type 1} (𝓤 : URA M) (H : Heap 𝓤) (A : Atoms 𝓤) (W : Given 𝓤 H A) (mem : Memory → SProp 𝓤) (run : Routine → Fun 𝓤) where
-  entry-walks : (C : Calls 𝓤 H) (Λ : Loops 𝓤 H) → FmC 𝓤 H (W .laws) C → Triple 𝓤 (C #shared-marks·direct·update-reader) (Core 𝓤 H A mem run) → Triple 𝓤 (C #reader-replies·move-told) (Tell 𝓤 H A mem run)
+  entry-walks : (C : Calls 𝓤 H) (Λ : Loops 𝓤 H) → FmC 𝓤 H (W .laws) C → Triple 𝓤 (C #registry-calls·direct·update-reader) (Core 𝓤 H A mem run) → Triple 𝓤 (C #reader-replies·move-told) (Tell 𝓤 H A mem run)
       → Walks 𝓤 H A entry.ended stayed (WpFn 𝓤 H C Λ code.function) (entry.clauses 𝓤 H A mem run)
   entry-walks C Λ fm known known-tell = walked 𝓤 H A entry.ended stayed (entry.clauses 𝓤 H A mem run) (WpFn 𝓤 H C Λ code.function)
       (λ κs. (uint-vals w64, (slice-vals, (slice-vals, (slice-vals, (uint-vals w64, (uint-vals w64, (uint-vals w64, tt)))))))) (λ κs. (uint-tells w64, (mut-slice-tells (named 0) (κs .0) u64, (shr-slice-tells (named 1) (κs .1 .0) u64, (shr-slice-tells (named 2) (κs .1 .1 .0) R, (uint-tells w64, (uint-tells w64, (uint-tells w64, tt))))))))
       (λ κs qs bounds a g are. via 𝓤 _ (fst∗ 𝓤 _ (emp 𝓤))
       (walk 𝓤 H A W mem run (κs .0) (κs .1 .0) (κs .1 .1 .0) (qs .0) (qs .1 .0) (qs .1 .1 .0) (a .0) (a .1 .0) (a .1 .1 .0) (a .1 .1 .1 .0) (a .1 .1 .1 .1 .0) (a .1 .1 .1 .1 .1 .0) (a .1 .1 .1 .1 .1 .1 .0) (are .0 .1) (are .1 .0 .0 .1) (are .1 .1 .0 .0 .1) (are .1 .1 .1 .0 .0 .1) (are .1 .1 .1 .1 .0 .1) (are .1 .1 .1 .1 .1 .0 .1) (are .1 .1 .1 .1 .1 .1 .0 .1) C Λ fm known known-tell))
 
-entry-meets : {M : Type 1} (𝓤 : URA M) (H : Heap 𝓤) (A : Atoms 𝓤) (W : Given 𝓤 H A) (mem : Memory → SProp 𝓤) (run : Routine → Fun 𝓤) (𝓣 : Tables 𝓤 H) → Triple 𝓤 (𝓣 .C #shared-marks·direct·update-reader) (Core 𝓤 H A mem run) → Triple 𝓤 (𝓣 .C #reader-replies·move-told) (Tell 𝓤 H A mem run)
+entry-meets : {M : Type 1} (𝓤 : URA M) (H : Heap 𝓤) (A : Atoms 𝓤) (W : Given 𝓤 H A) (mem : Memory → SProp 𝓤) (run : Routine → Fun 𝓤) (𝓣 : Tables 𝓤 H) → Triple 𝓤 (𝓣 .C #registry-calls·direct·update-reader) (Core 𝓤 H A mem run) → Triple 𝓤 (𝓣 .C #reader-replies·move-told) (Tell 𝓤 H A mem run)
     → Meets 𝓤 H A entry.signature (WpFn 𝓤 H (𝓣 .C) (𝓣 .Λ) code.function) (entry.spec 𝓤 H A mem run)
 entry-meets 𝓤 H A W mem run 𝓣 known known-tell =
     walk-meets 𝓤 H A entry.ended stayed W (goes-none 𝓤 H A W 3 (λ _. usize) yes (λ κs x f. refl), (goes-gave-slice 𝓤 H A W 3 0 tt (plain (λ _. u64)), (goes-none-slice 𝓤 H A W 3 (1 ∷ []) tt (plain (λ _. u64)) yes, (goes-none-slice 𝓤 H A W 3 (2 ∷ []) tt (plain (λ _. R)) yes, (goes-none 𝓤 H A W 3 (λ _. usize) yes (λ κs x f. refl), (goes-none 𝓤 H A W 3 (λ _. u64) yes (λ κs x f. refl), (goes-none 𝓤 H A W 3 (λ _. u64) yes (λ κs x f. refl), tt))))))) (entry.clauses 𝓤 H A mem run)
@@ -215,5 +215,5 @@ wal-update-reader-spec 𝓤 H 𝓜 𝓖 𝓡 =
     entered 𝓤 H (tripleOf 𝓤 H (𝓖 .A) entry.signature (entry.spec 𝓤 H (𝓖 .A) (𝓜 .mem) (𝓡 .run)))
     (tables 𝓤 H 𝓜 𝓡 code.env .C) (tables 𝓤 H 𝓜 𝓡 code.env .Λ) #reader-boundary·reader-calls·wal-update-reader code.function (code.unfolded 𝓤 H 𝓜 𝓡)
     (entry-meets 𝓤 H (𝓖 .A) (givenOf 𝓤 H 𝓜 𝓖) (𝓜 .mem) (𝓡 .run) (tablesOf 𝓤 H 𝓜 (tables 𝓤 H 𝓜 𝓡 code.env))
-    (cited 𝓤 H (Core 𝓤 H (𝓖 .A) (𝓜 .mem) (𝓡 .run)) 𝓜 𝓡 code.env #shared-marks·direct·update-reader core-def.routine code.calls-shared-marks·direct·update-reader (core-thm.met 𝓤 H 𝓜 𝓖 𝓡))
+    (cited 𝓤 H (Core 𝓤 H (𝓖 .A) (𝓜 .mem) (𝓡 .run)) 𝓜 𝓡 code.env #registry-calls·direct·update-reader core-def.routine code.calls-registry-calls·direct·update-reader (core-thm.met 𝓤 H 𝓜 𝓖 𝓡))
     (cited 𝓤 H (Tell 𝓤 H (𝓖 .A) (𝓜 .mem) (𝓡 .run)) 𝓜 𝓡 code.env #reader-replies·move-told tell-def.routine code.calls-reader-replies·move-told (tell-thm.met 𝓤 H 𝓜 𝓖 𝓡)))

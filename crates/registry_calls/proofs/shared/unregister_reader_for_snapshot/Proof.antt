@@ -1,4 +1,4 @@
--- `shared_marks::shared::unregister_reader_for_snapshot` meets its contract: a walk of its MIR, by hand. The registry is opened and lent as a `&` to `look_through`, for a lifetime that is made for the call, and comes back; the other slices go to `unshare_plan` for good; and the registry goes to `store_record` for good, with the plan's record.
+-- `registry_calls::shared::unregister_reader_for_snapshot` meets its contract: a walk of its MIR, by hand. The registry is opened and lent as a `&` to `look_through`, for a lifetime that is made for the call, and comes back; the other slices go to `unshare_plan` for good; and the registry goes to `store_record` for good, with the plan's record.
 -- All that the proof knows of `look_through`, `unshare_plan` and `store_record` is that each meets its contract. Assumes nothing.
 use mathlib.Core.Path.{_≡_, refl, ap}
 use Prim.Native.Nat.{ℕ, _<_, _^_, min}
@@ -53,35 +53,35 @@ use Rattle.wal_types.proofs.SharedOwnerRecord.Laws as O′
 use Rattle.wal_types.proofs.SharedWalOwnershipMode as K
 use Rattle.wal_types.proofs.SharedWalOwnershipMode.Laws as K′
 use Rattle.mark_registry.specs.declared.Seen.{Seen}
 use Rattle.shared_marks.specs.declared.shared.UnsharePlan.{UnsharePlan}
 use Rattle.reader_moves.specs.declared.update.Release.{Release}
 use Rattle.reader_moves.specs.Update.{release-answer}
 use Rattle.shared_marks.specs.Shared.{unregister-reader-for-snapshot, SharedCall}
 use Rattle.mark_registry.specs.Scan.{seen-of}
 use Rattle.shared_marks.specs.Inner.{PlanCall}
-use Rattle.shared_marks.proofs.Planned.{planned}
+use Rattle.registry_calls.proofs.Planned.{planned}
 use Rattle.mark_registry.proofs.Seen as N
 use Rattle.mark_registry.proofs.Seen.Laws as N′
 use Rattle.shared_marks.proofs.shared.UnsharePlan as P
 use Rattle.shared_marks.proofs.shared.UnsharePlan.Laws as P′
 use Rattle.reader_moves.proofs.update.Release as S
 use Rattle.reader_moves.proofs.update.Release.Laws as S′
 use Rattle.mark_registry.proofs.look_through as scan
 use Rattle.mark_registry.proofs.look_through.Symbol as scan-def
 use Rattle.mark_registry.proofs.look_through.Symbol.{name as #mark-registry·look-through}
 use Rattle.mark_registry.proofs.look_through.Met as scan-thm
 use Rattle.shared_marks.proofs.shared.unshare_plan as core
 use Rattle.shared_marks.proofs.shared.unshare_plan.Symbol as core-def
 use Rattle.shared_marks.proofs.shared.unshare_plan.Symbol.{name as #shared-marks·shared·unshare-plan}
 use Rattle.shared_marks.proofs.shared.unshare_plan.Met as core-thm
 use Rattle.mark_registry.proofs.store_record as stores
 use Rattle.mark_registry.proofs.store_record.Symbol as stores-def
 use Rattle.mark_registry.proofs.store_record.Symbol.{name as #mark-registry·store-record}
 use Rattle.mark_registry.proofs.store_record.Met as stores-thm
-use Rattle.shared_marks.proofs.shared.unregister_reader_for_snapshot.Key.{name as #shared-marks·shared·unregister-reader-for-snapshot}
-use Rattle.shared_marks.proofs.shared.unregister_reader_for_snapshot as entry
-use Rattle.shared_marks.proofs.shared.unregister_reader_for_snapshot.Statement as stated
-use Rattle.shared_marks.proofs.shared.unregister_reader_for_snapshot.Code as code
+use Rattle.registry_calls.proofs.shared.unregister_reader_for_snapshot.Key.{name as #registry-calls·shared·unregister-reader-for-snapshot}
+use Rattle.registry_calls.proofs.shared.unregister_reader_for_snapshot as entry
+use Rattle.registry_calls.proofs.shared.unregister_reader_for_snapshot.Statement as stated
+use Rattle.registry_calls.proofs.shared.unregister_reader_for_snapshot.Code as code
 
 abbrev R : RattleType
 R = T.the-row
@@ -303,7 +303,7 @@ pub unregister-reader-for-snapshot-spec : {M : Type 1} → stated.statement M
 unfolding code.routine tablesOf
 unregister-reader-for-snapshot-spec 𝓤 H 𝓜 𝓖 𝓡 =
     entered 𝓤 H (tripleOf 𝓤 H (𝓖 .A) entry.signature (entry.spec 𝓤 H (𝓖 .A) (𝓜 .mem) (𝓡 .run)))
-    (tables 𝓤 H 𝓜 𝓡 code.env .C) (tables 𝓤 H 𝓜 𝓡 code.env .Λ) #shared-marks·shared·unregister-reader-for-snapshot code.function (code.unfolded 𝓤 H 𝓜 𝓡)
+    (tables 𝓤 H 𝓜 𝓡 code.env .C) (tables 𝓤 H 𝓜 𝓡 code.env .Λ) #registry-calls·shared·unregister-reader-for-snapshot code.function (code.unfolded 𝓤 H 𝓜 𝓡)
     (entry-meets 𝓤 H (𝓖 .A) (givenOf 𝓤 H 𝓜 𝓖) (𝓜 .mem) (𝓡 .run) (tablesOf 𝓤 H 𝓜 (tables 𝓤 H 𝓜 𝓡 code.env))
     (cited 𝓤 H (Scan 𝓤 H (𝓖 .A) (𝓜 .mem) (𝓡 .run)) 𝓜 𝓡 code.env #mark-registry·look-through scan-def.routine code.calls-mark-registry·look-through (scan-thm.met 𝓤 H 𝓜 𝓖 𝓡))
     (cited 𝓤 H (Core 𝓤 H (𝓖 .A) (𝓜 .mem) (𝓡 .run)) 𝓜 𝓡 code.env #shared-marks·shared·unshare-plan core-def.routine code.calls-shared-marks·shared·unshare-plan (core-thm.met 𝓤 H 𝓜 𝓖 𝓡))

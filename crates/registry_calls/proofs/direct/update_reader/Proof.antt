@@ -1,4 +1,4 @@
--- `shared_marks::direct::update_reader` meets its contract: a walk of its MIR, by hand. The registry, lent as a `&`, goes to `slot_is_shared`, and the other slices go to the core.
+-- `registry_calls::direct::update_reader` meets its contract: a walk of its MIR, by hand. The registry, lent as a `&`, goes to `slot_is_shared`, and the other slices go to the core.
 -- All that the proof knows of `slot_is_shared` and `update_core` is that each meets its contract. Assumes nothing.
 use mathlib.Core.Path.{_≡_, refl, ap, subst}
 use Prim.Native.Nat.{ℕ, _<_, _^_}
@@ -46,9 +46,9 @@ use Rattle.wal_types.proofs.SharedOwnerRecord as O
 use Rattle.wal_types.proofs.SharedOwnerRecord.Laws as O′
 use Rattle.reader_moves.specs.declared.update.Update.{Update}
 use Rattle.reader_moves.specs.Update.{update-reader, update-answer, MoveCall}
-use Rattle.shared_marks.specs.Direct.{DirectMove}
+use Rattle.registry_calls.specs.Direct.{DirectMove}
 use Rattle.reader_slots.specs.Slots.{in-registry}
-use Rattle.shared_marks.proofs.Directed.{moved}
+use Rattle.registry_calls.proofs.Directed.{moved}
 use Rattle.reader_moves.proofs.update.Update as S
 use Rattle.reader_moves.proofs.update.Update.Laws as S′
 use Rattle.mark_registry.proofs.slot_is_shared as scan
@@ -59,10 +59,10 @@ use Rattle.reader_moves.proofs.update.update_core as core
 use Rattle.reader_moves.proofs.update.update_core.Symbol as core-def
 use Rattle.reader_moves.proofs.update.update_core.Symbol.{name as #reader-moves·update·update-core}
 use Rattle.reader_moves.proofs.update.update_core.Met as core-thm
-use Rattle.shared_marks.proofs.direct.update_reader.Key.{name as #shared-marks·direct·update-reader}
-use Rattle.shared_marks.proofs.direct.update_reader as entry
-use Rattle.shared_marks.proofs.direct.update_reader.Statement as stated
-use Rattle.shared_marks.proofs.direct.update_reader.Code as code
+use Rattle.registry_calls.proofs.direct.update_reader.Key.{name as #registry-calls·direct·update-reader}
+use Rattle.registry_calls.proofs.direct.update_reader as entry
+use Rattle.registry_calls.proofs.direct.update_reader.Statement as stated
+use Rattle.registry_calls.proofs.direct.update_reader.Code as code
 
 abbrev R : RattleType
 R = T.the-row
@@ -208,7 +208,7 @@ pub update-reader-spec : {M : Type 1} → stated.statement M
 unfolding code.routine tablesOf
 update-reader-spec 𝓤 H 𝓜 𝓖 𝓡 =
     entered 𝓤 H (tripleOf 𝓤 H (𝓖 .A) entry.signature (entry.spec 𝓤 H (𝓖 .A) (𝓜 .mem) (𝓡 .run)))
-    (tables 𝓤 H 𝓜 𝓡 code.env .C) (tables 𝓤 H 𝓜 𝓡 code.env .Λ) #shared-marks·direct·update-reader code.function (code.unfolded 𝓤 H 𝓜 𝓡)
+    (tables 𝓤 H 𝓜 𝓡 code.env .C) (tables 𝓤 H 𝓜 𝓡 code.env .Λ) #registry-calls·direct·update-reader code.function (code.unfolded 𝓤 H 𝓜 𝓡)
     (entry-meets 𝓤 H (𝓖 .A) (givenOf 𝓤 H 𝓜 𝓖) (𝓜 .mem) (𝓡 .run) (tablesOf 𝓤 H 𝓜 (tables 𝓤 H 𝓜 𝓡 code.env))
     (cited 𝓤 H (Scan 𝓤 H (𝓖 .A) (𝓜 .mem) (𝓡 .run)) 𝓜 𝓡 code.env #mark-registry·slot-is-shared scan-def.routine code.calls-mark-registry·slot-is-shared (scan-thm.met 𝓤 H 𝓜 𝓖 𝓡))
     (cited 𝓤 H (Core 𝓤 H (𝓖 .A) (𝓜 .mem) (𝓡 .run)) 𝓜 𝓡 code.env #reader-moves·update·update-core core-def.routine code.calls-reader-moves·update·update-core (core-thm.met 𝓤 H 𝓜 𝓖 𝓡)))

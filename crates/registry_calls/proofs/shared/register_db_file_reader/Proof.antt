@@ -1,4 +1,4 @@
--- `shared_marks::shared::register_db_file_reader` meets its contract: a walk of its MIR, by hand. All parts go on to `register_reader_for_snapshot` for good.
+-- `registry_calls::shared::register_db_file_reader` meets its contract: a walk of its MIR, by hand. All parts go on to `register_reader_for_snapshot` for good.
 -- All that the proof knows of `register_reader_for_snapshot` is that it meets its contract. Assumes nothing.
 use mathlib.Core.Path.{_≡_, refl, ap, subst}
 use Prim.Native.Nat.{ℕ, _<_, _^_}
@@ -47,18 +47,18 @@ use Rattle.wal_types.proofs.SharedOwnerRecord as O
 use Rattle.wal_types.proofs.SharedOwnerRecord.Laws as O′
 use Rattle.wal_types.proofs.SharedWalOwnershipMode as K
 use Rattle.wal_types.proofs.SharedWalOwnershipMode.Laws as K′
 use Rattle.shared_marks.specs.declared.shared.Share.{Share as Answered}
 use Rattle.shared_marks.specs.Shared.{register-db-file-reader, share-answer, SharedCall}
 use Rattle.shared_marks.proofs.shared.Share as S
 use Rattle.shared_marks.proofs.shared.Share.Laws as S′
-use Rattle.shared_marks.proofs.shared.register_reader_for_snapshot as core
-use Rattle.shared_marks.proofs.shared.register_reader_for_snapshot.Symbol as core-def
-use Rattle.shared_marks.proofs.shared.register_reader_for_snapshot.Symbol.{name as #shared-marks·shared·register-reader-for-snapshot}
-use Rattle.shared_marks.proofs.shared.register_reader_for_snapshot.Met as core-thm
-use Rattle.shared_marks.proofs.shared.register_db_file_reader.Key.{name as #shared-marks·shared·register-db-file-reader}
-use Rattle.shared_marks.proofs.shared.register_db_file_reader as entry
-use Rattle.shared_marks.proofs.shared.register_db_file_reader.Statement as stated
-use Rattle.shared_marks.proofs.shared.register_db_file_reader.Code as code
+use Rattle.registry_calls.proofs.shared.register_reader_for_snapshot as core
+use Rattle.registry_calls.proofs.shared.register_reader_for_snapshot.Symbol as core-def
+use Rattle.registry_calls.proofs.shared.register_reader_for_snapshot.Symbol.{name as #registry-calls·shared·register-reader-for-snapshot}
+use Rattle.registry_calls.proofs.shared.register_reader_for_snapshot.Met as core-thm
+use Rattle.registry_calls.proofs.shared.register_db_file_reader.Key.{name as #registry-calls·shared·register-db-file-reader}
+use Rattle.registry_calls.proofs.shared.register_db_file_reader as entry
+use Rattle.registry_calls.proofs.shared.register_db_file_reader.Statement as stated
+use Rattle.registry_calls.proofs.shared.register_db_file_reader.Code as code
 
 abbrev R : RattleType
 R = T.the-row
@@ -127,7 +127,7 @@ module _ {M : Type 1} (𝓤 : URA M) (H : Heap 𝓤) (A : Atoms 𝓤) (W : Given
   abbrev Lasts : Type 0
   Lasts = Unit {0} × (Unit {0} × (List ℕ × (List ℕ × (List ℕ × (List ℕ × (List SharedReadMark × (Unit {0} × (Unit {0} × (Unit {0} × Unit {0})))))))))
 
-  module _ (C : Calls 𝓤 H) (Λ : Loops 𝓤 H) (fm : FmC 𝓤 H (W .laws) C) (known : Triple 𝓤 (C #shared-marks·shared·register-reader-for-snapshot) (Core 𝓤 H A mem run)) where
+  module _ (C : Calls 𝓤 H) (Λ : Loops 𝓤 H) (fm : FmC 𝓤 H (W .laws) C) (known : Triple 𝓤 (C #registry-calls·shared·register-reader-for-snapshot) (Core 𝓤 H A mem run)) where
     walk : ent 𝓤 (onEntry 𝓤 H A entry.signature (κ0, (κ1, (κ2, (κ3, (κ4, (κ5, tt)))))) (q0, (q1, (q2, (q3, (q4, (q5, tt)))))) a at) (WpFn 𝓤 H C Λ code.function flat Post)
     walk =
         qed W ((‵ (flft κ0 q0) ⊛ ‵ (flft κ1 q1) ⊛ ‵ (flft κ2 q2) ⊛ ‵ (flft κ3 q3) ⊛ ‵ (flft κ4 q4) ⊛ ‵ (flft κ5 q5) ⊛ ‵ ftrue) ∷ ‵ (owns (usize ∷ K.the-row ∷ MutSlice (named 0) κ0 u64 ∷ MutSlice (named 1) κ1 u64 ∷ MutSlice (named 2) κ2 u64 ∷ MutSlice (named 3) κ3 u64 ∷ MutSlice (named 4) κ4 R ∷ ShrSlice (named 5) κ5 u8 ∷ O.the-row ∷ []) a at) ∷ []) ∵ enter ! C Λ code.function flat _ $
@@ -172,14 +172,14 @@ module _ {M : Type 1} (𝓤 : URA M) (H : Heap 𝓤) (A : Atoms 𝓤) (W : Given
         by ! (exits r (subst (Is S.the-row r) (EL.tells S.the-type S′.the-laws r (v ∷ []) is) is) (ws .1 .1 .0) (ws .1 .1 .1 .0) (ws .1 .1 .1 .1 .0) (ws .1 .1 .1 .1 .1 .0) (ws .1 .1 .1 .1 .1 .1 .0) e k1 k2 k3 k4 k5)))))))))))))))))))))))))))))))
 
 module _ {M : Type 1} (𝓤 : URA M) (H : Heap 𝓤) (A : Atoms 𝓤) (W : Given 𝓤 H A) (mem : Memory → SProp 𝓤) (run : Routine → Fun 𝓤) where
-  entry-walks : (C : Calls 𝓤 H) (Λ : Loops 𝓤 H) → FmC 𝓤 H (W .laws) C → Triple 𝓤 (C #shared-marks·shared·register-reader-for-snapshot) (Core 𝓤 H A mem run)
+  entry-walks : (C : Calls 𝓤 H) (Λ : Loops 𝓤 H) → FmC 𝓤 H (W .laws) C → Triple 𝓤 (C #registry-calls·shared·register-reader-for-snapshot) (Core 𝓤 H A mem run)
       → Walks 𝓤 H A entry.ended stayed (WpFn 𝓤 H C Λ code.function) (entry.clauses 𝓤 H A mem run)
   entry-walks C Λ fm known = walked 𝓤 H A entry.ended stayed (entry.clauses 𝓤 H A mem run) (WpFn 𝓤 H C Λ code.function)
       (λ κs. (uint-vals w64, (EL.vals K.the-type K′.the-laws, (slice-vals, (slice-vals, (slice-vals, (slice-vals, (slice-vals, (slice-vals, (LL.vals O.the-type O′.the-laws, tt)))))))))) (λ κs. (uint-tells w64, (EL.tells K.the-type K′.the-laws, (mut-slice-tells (named 0) (κs .0) u64, (mut-slice-tells (named 1) (κs .1 .0) u64, (mut-slice-tells (named 2) (κs .1 .1 .0) u64, (mut-slice-tells (named 3) (κs .1 .1 .1 .0) u64, (mut-slice-tells (named 4) (κs .1 .1 .1 .1 .0) R, (shr-slice-tells (named 5) (κs .1 .1 .1 .1 .1 .0) u8, (LL.tells O.the-type O′.the-laws, tt))))))))))
       (λ κs qs bounds a g are. via 𝓤 _ (fst∗ 𝓤 _ (emp 𝓤))
       (walk 𝓤 H A W mem run (κs .0) (κs .1 .0) (κs .1 .1 .0) (κs .1 .1 .1 .0) (κs .1 .1 .1 .1 .0) (κs .1 .1 .1 .1 .1 .0) (qs .0) (qs .1 .0) (qs .1 .1 .0) (qs .1 .1 .1 .0) (qs .1 .1 .1 .1 .0) (qs .1 .1 .1 .1 .1 .0) (a .1 .1 .1 .1 .1 .1 .0 .ptr .0) (a .1 .1 .1 .1 .1 .1 .0 .ptr .1) (a .1 .1 .1 .1 .1 .1 .0 .name) (a .1 .1 .1 .1 .1 .1 .0 .now) (a .0) (a .1 .0) (a .1 .1 .0) (a .1 .1 .1 .0) (a .1 .1 .1 .1 .0) (a .1 .1 .1 .1 .1 .0) (a .1 .1 .1 .1 .1 .1 .1 .0) (a .1 .1 .1 .1 .1 .1 .1 .1 .0) (are .0 .1) (are .1 .0) (are .1 .1 .0 .0 .1) (are .1 .1 .1 .0 .0 .1) (are .1 .1 .1 .1 .0 .0 .1) (are .1 .1 .1 .1 .1 .0 .0 .1) (are .1 .1 .1 .1 .1 .1 .0 .0 .1) (are .1 .1 .1 .1 .1 .1 .1 .0 .0 .1) (are .1 .1 .1 .1 .1 .1 .1 .1 .0) C Λ fm known))
 
-entry-meets : {M : Type 1} (𝓤 : URA M) (H : Heap 𝓤) (A : Atoms 𝓤) (W : Given 𝓤 H A) (mem : Memory → SProp 𝓤) (run : Routine → Fun 𝓤) (𝓣 : Tables 𝓤 H) → Triple 𝓤 (𝓣 .C #shared-marks·shared·register-reader-for-snapshot) (Core 𝓤 H A mem run)
+entry-meets : {M : Type 1} (𝓤 : URA M) (H : Heap 𝓤) (A : Atoms 𝓤) (W : Given 𝓤 H A) (mem : Memory → SProp 𝓤) (run : Routine → Fun 𝓤) (𝓣 : Tables 𝓤 H) → Triple 𝓤 (𝓣 .C #registry-calls·shared·register-reader-for-snapshot) (Core 𝓤 H A mem run)
     → Meets 𝓤 H A entry.signature (WpFn 𝓤 H (𝓣 .C) (𝓣 .Λ) code.function) (entry.spec 𝓤 H A mem run)
 entry-meets 𝓤 H A W mem run 𝓣 known =
     walk-meets 𝓤 H A entry.ended stayed W (goes-none 𝓤 H A W 6 (λ _. usize) yes (λ κs x f. refl), (goes-none 𝓤 H A W 6 (λ _. K.the-row) yes (λ κs x f. refl), (goes-gave-slice 𝓤 H A W 6 0 tt (plain (λ _. u64)), (goes-gave-slice 𝓤 H A W 6 1 tt (plain (λ _. u64)), (goes-gave-slice 𝓤 H A W 6 2 tt (plain (λ _. u64)), (goes-gave-slice 𝓤 H A W 6 3 tt (plain (λ _. u64)), (goes-gave-slice 𝓤 H A W 6 4 tt (plain (λ _. R)), (goes-none-slice 𝓤 H A W 6 (5 ∷ []) tt (plain (λ _. u8)) yes, (goes-none 𝓤 H A W 6 (λ _. O.the-row) yes (λ κs x f. refl), tt))))))))) (entry.clauses 𝓤 H A mem run)
@@ -189,6 +189,6 @@ pub register-db-file-reader-spec : {M : Type 1} → stated.statement M
 unfolding code.routine tablesOf
 register-db-file-reader-spec 𝓤 H 𝓜 𝓖 𝓡 =
     entered 𝓤 H (tripleOf 𝓤 H (𝓖 .A) entry.signature (entry.spec 𝓤 H (𝓖 .A) (𝓜 .mem) (𝓡 .run)))
-    (tables 𝓤 H 𝓜 𝓡 code.env .C) (tables 𝓤 H 𝓜 𝓡 code.env .Λ) #shared-marks·shared·register-db-file-reader code.function (code.unfolded 𝓤 H 𝓜 𝓡)
+    (tables 𝓤 H 𝓜 𝓡 code.env .C) (tables 𝓤 H 𝓜 𝓡 code.env .Λ) #registry-calls·shared·register-db-file-reader code.function (code.unfolded 𝓤 H 𝓜 𝓡)
     (entry-meets 𝓤 H (𝓖 .A) (givenOf 𝓤 H 𝓜 𝓖) (𝓜 .mem) (𝓡 .run) (tablesOf 𝓤 H 𝓜 (tables 𝓤 H 𝓜 𝓡 code.env))
-    (cited 𝓤 H (Core 𝓤 H (𝓖 .A) (𝓜 .mem) (𝓡 .run)) 𝓜 𝓡 code.env #shared-marks·shared·register-reader-for-snapshot core-def.routine code.calls-shared-marks·shared·register-reader-for-snapshot (core-thm.met 𝓤 H 𝓜 𝓖 𝓡)))
+    (cited 𝓤 H (Core 𝓤 H (𝓖 .A) (𝓜 .mem) (𝓡 .run)) 𝓜 𝓡 code.env #registry-calls·shared·register-reader-for-snapshot core-def.routine code.calls-registry-calls·shared·register-reader-for-snapshot (core-thm.met 𝓤 H 𝓜 𝓖 𝓡)))

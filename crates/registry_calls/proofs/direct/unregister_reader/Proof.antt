@@ -1,4 +1,4 @@
--- `shared_marks::direct::unregister_reader` meets its contract: a walk of its MIR, by hand. The registry, lent as a `&`, goes to `slot_is_shared`, and the other slices go to the core.
+-- `registry_calls::direct::unregister_reader` meets its contract: a walk of its MIR, by hand. The registry, lent as a `&`, goes to `slot_is_shared`, and the other slices go to the core.
 -- All that the proof knows of `slot_is_shared` and `unregister_core` is that each meets its contract. Assumes nothing.
 use mathlib.Core.Path.{_≡_, refl, ap, subst}
 use Prim.Native.Nat.{ℕ, _<_, _^_}
@@ -49,9 +49,9 @@ use Rattle.wal_types.proofs.SharedWalOwnershipMode as K
 use Rattle.wal_types.proofs.SharedWalOwnershipMode.Laws as K′
 use Rattle.reader_moves.specs.declared.update.Release.{Release}
 use Rattle.reader_moves.specs.Update.{unregister-reader, release-answer, ReleaseCall}
 use Rattle.shared_marks.specs.Shared.{SharedCall}
 use Rattle.reader_slots.specs.Slots.{in-registry}
-use Rattle.shared_marks.proofs.Directed.{released}
+use Rattle.registry_calls.proofs.Directed.{released}
 use Rattle.reader_moves.proofs.update.Release as S
 use Rattle.reader_moves.proofs.update.Release.Laws as S′
 use Rattle.mark_registry.proofs.slot_is_shared as scan
@@ -62,10 +62,10 @@ use Rattle.reader_moves.proofs.update.unregister_core as core
 use Rattle.reader_moves.proofs.update.unregister_core.Symbol as core-def
 use Rattle.reader_moves.proofs.update.unregister_core.Symbol.{name as #reader-moves·update·unregister-core}
 use Rattle.reader_moves.proofs.update.unregister_core.Met as core-thm
-use Rattle.shared_marks.proofs.direct.unregister_reader.Key.{name as #shared-marks·direct·unregister-reader}
-use Rattle.shared_marks.proofs.direct.unregister_reader as entry
-use Rattle.shared_marks.proofs.direct.unregister_reader.Statement as stated
-use Rattle.shared_marks.proofs.direct.unregister_reader.Code as code
+use Rattle.registry_calls.proofs.direct.unregister_reader.Key.{name as #registry-calls·direct·unregister-reader}
+use Rattle.registry_calls.proofs.direct.unregister_reader as entry
+use Rattle.registry_calls.proofs.direct.unregister_reader.Statement as stated
+use Rattle.registry_calls.proofs.direct.unregister_reader.Code as code
 
 abbrev R : RattleType
 R = T.the-row
@@ -228,7 +228,7 @@ pub unregister-reader-spec : {M : Type 1} → stated.statement M
 unfolding code.routine tablesOf
 unregister-reader-spec 𝓤 H 𝓜 𝓖 𝓡 =
     entered 𝓤 H (tripleOf 𝓤 H (𝓖 .A) entry.signature (entry.spec 𝓤 H (𝓖 .A) (𝓜 .mem) (𝓡 .run)))
-    (tables 𝓤 H 𝓜 𝓡 code.env .C) (tables 𝓤 H 𝓜 𝓡 code.env .Λ) #shared-marks·direct·unregister-reader code.function (code.unfolded 𝓤 H 𝓜 𝓡)
+    (tables 𝓤 H 𝓜 𝓡 code.env .C) (tables 𝓤 H 𝓜 𝓡 code.env .Λ) #registry-calls·direct·unregister-reader code.function (code.unfolded 𝓤 H 𝓜 𝓡)
     (entry-meets 𝓤 H (𝓖 .A) (givenOf 𝓤 H 𝓜 𝓖) (𝓜 .mem) (𝓡 .run) (tablesOf 𝓤 H 𝓜 (tables 𝓤 H 𝓜 𝓡 code.env))
     (cited 𝓤 H (Scan 𝓤 H (𝓖 .A) (𝓜 .mem) (𝓡 .run)) 𝓜 𝓡 code.env #mark-registry·slot-is-shared scan-def.routine code.calls-mark-registry·slot-is-shared (scan-thm.met 𝓤 H 𝓜 𝓖 𝓡))
     (cited 𝓤 H (Core 𝓤 H (𝓖 .A) (𝓜 .mem) (𝓡 .run)) 𝓜 𝓡 code.env #reader-moves·update·unregister-core core-def.routine code.calls-reader-moves·update·unregister-core (core-thm.met 𝓤 H 𝓜 𝓖 𝓡)))

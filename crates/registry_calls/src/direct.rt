@@ -6,8 +6,8 @@ use wal_types::SharedOwnerRecord;
 use wal_types::SharedReadMark;
 use wal_types::SharedWalOwnershipMode;
 ghost use Rattle.reader_moves.specs.Update.{update-reader, update-answer, unregister-reader, release-answer};
 ghost use Rattle.shared_marks.specs.Shared.{SharedCall};
-ghost use Rattle.shared_marks.specs.Direct.{DirectMove};
+ghost use Rattle.registry_calls.specs.Direct.{DirectMove};
 
 // Moves a reader to another mark.
 pub fn update_reader(

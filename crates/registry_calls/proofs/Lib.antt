@@ -1,0 +1,3 @@
+-- Plans carried out, and direct calls by a process with a registry.
+pub mod Planned
+pub mod Directed

@@ -1,0 +1,2 @@
+-- Calls that are lent the registry and leave it as it is.
+pub mod Direct
