@@ -45,7 +45,9 @@ static void find(uint64_t page, uint64_t up_to) {
     struct wal_find_reply r = wal_find_frame(CAPACITY, BLOCKS, header, pages, BLOCKS * WAL_BLOCK_ENTRIES, frames,
                                              BLOCKS * WAL_BLOCK_ENTRIES, hash, BLOCKS * WAL_BLOCK_HASH_CELLS, page, 1,
                                              up_to, 0, 0);
-    if (r.found == 1)
+    if (r.refusal != 0)
+        printf("find page %" PRIu64 " up to %" PRIu64 ": refused %" PRIu32 "\n", page, up_to, r.refusal);
+    else if (r.found == 1)
         printf("find page %" PRIu64 " up to %" PRIu64 ": frame %" PRIu64 "\n", page, up_to, r.frame);
     else
         printf("find page %" PRIu64 " up to %" PRIu64 ": none\n", page, up_to);
@@ -57,6 +59,10 @@ static void list(uint64_t up_to) {
                                                      frames, BLOCKS * WAL_BLOCK_ENTRIES, hash,
                                                      BLOCKS * WAL_BLOCK_HASH_CELLS, 1, up_to, out_pages, 8, out_frames,
                                                      8);
+    if (r.refusal != 0) {
+        printf("list up to %" PRIu64 ": refused %" PRIu32 "\n", up_to, r.refusal);
+        return;
+    }
     printf("list up to %" PRIu64 ":", up_to);
     for (uint64_t i = 0; i < r.count; i++)
         printf(" %" PRIu64 ":%" PRIu64, out_pages[i], out_frames[i]);
@@ -69,7 +75,10 @@ static const uint8_t card[SLOTS] = {WAL_GRANTED, WAL_GRANTED};
 static void limit(void) {
     struct wal_limit_reply r = wal_copy_back_limit(SLOTS, MODE, header.max_frame, bitmap, 1, reader_frames, SLOTS,
                                                    reader_owners, SLOTS, local_readers, SLOTS, card, SLOTS);
-    printf("copy-back limit: %" PRIu64 "\n", r.limit);
+    if (r.refusal != 0)
+        printf("copy-back limit: refused %" PRIu32 "\n", r.refusal);
+    else
+        printf("copy-back limit: %" PRIu64 "\n", r.limit);
 }
 
 int main(void) {
@@ -83,6 +92,10 @@ int main(void) {
     struct wal_reader_reply reader = wal_register_reader_for_snapshot(
         SLOTS, MODE, bitmap, 1, reader_frames, SLOTS, reader_owners, SLOTS, local_readers, SLOTS, registry, SLOTS, card,
         SLOTS, owner, header.max_frame);
+    if (reader.refusal != 0 || reader.taken != 1) {
+        printf("register: refused %" PRIu32 ", or no slot\n", reader.refusal);
+        return 1;
+    }
     printf("register at %" PRIu64 ": slot %" PRIu64 "\n", reader.mark, reader.slot);
 
     record(7, 3);

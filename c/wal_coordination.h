@@ -1,6 +1,6 @@
 /* The shared frame index of a write-ahead log, its reader slots, locks and counters.
  *
- * Link with libwal_coordination.a, which ./build proves and writes. x86-64, System V calling convention; usize is size_t.
+ * Link with libwal_coordination.a, which ./build proves and writes. x86-64, System V calling convention.
  *
  * What the caller keeps to. The library is proved for any numbers and any contents of the memory that it is lent; these
  * points it cannot see:
@@ -14,7 +14,8 @@
  *     slot. Locks that were granted for the call and that its answer does not name are freed by the caller.
  *
  * Every call ends. A refused call answers the number of its refusal alone and changes nothing (docs/REFUSALS.md); 0 means
- * accepted. The comment of a function is its contract in words; the contract itself is in crates/wal_coordination. */
+ * accepted. The comment of a function is its contract in words; the contract itself is in the source of
+ * crates/header_boundary, crates/index_boundary and crates/reader_boundary. */
 #ifndef WAL_COORDINATION_H
 #define WAL_COORDINATION_H
 
@@ -30,7 +31,8 @@ extern "C" {
 #define WAL_MAX_BLOCKS 16      /* blocks of the index, 4,096 entries each */
 #define WAL_MAX_SLOTS 256      /* reader slots */
 
-/* A process lends 4,096 cells of pages and frames and 8,192 of hash for each block that the index may have. */
+/* A process lends 4,096 cells of pages and frames and 8,192 of hash for each block that the index may have. Fresh, every
+ * hash cell is 0; pages and frames may hold anything. A hash cell is an entry's place in its block + 1, 0 if it is empty. */
 #define WAL_BLOCK_ENTRIES 4096
 #define WAL_BLOCK_HASH_CELLS 8192
 
@@ -121,7 +123,8 @@ struct wal_lock_reply wal_try_acquire_writer(struct wal_header *header, uint64_t
 struct wal_lock_reply wal_try_acquire_checkpoint(struct wal_header *header, uint64_t local_owner, uint64_t owner,
                                                  uint8_t card);
 
-/* Release it: both cells become 0. WAL_PROCESS_SCOPED_FCNTL compares the owner with the own cell. Refusals 1, 7, 8, 9. */
+/* Release it: both cells become 0, and the byte lock is the caller's to free. WAL_PROCESS_SCOPED_FCNTL compares the owner
+ * with the own cell. Refusals 1, 7, 8, 9. */
 struct wal_lock_reply wal_release_writer(uint32_t mode, struct wal_header *header, uint64_t local_owner, uint64_t owner);
 struct wal_lock_reply wal_release_checkpoint(uint32_t mode, struct wal_header *header, uint64_t local_owner,
                                              uint64_t owner);
@@ -205,7 +208,7 @@ struct wal_reader_reply wal_update_reader(size_t n, uint64_t *reader_frames, siz
                                           const struct wal_shared_read_mark *registry, size_t registry_len,
                                           size_t slot, uint64_t owner, uint64_t mark);
 
-/* Releases a reader's slot. Answers 0 or the refusal: 1, 2, 6, 7, 8, 9, 11. */
+/* Releases a reader's slot, whose lock is then the caller's to free. Answers 0 or the refusal: 1, 2, 6, 7, 8, 9, 11. */
 uint32_t wal_unregister_reader(size_t n, uint32_t mode, uint64_t *bitmap, size_t bitmap_len, uint64_t *reader_frames,
                                size_t reader_frames_len, uint64_t *reader_owners, size_t reader_owners_len,
                                uint64_t *local_readers, size_t local_readers_len,
@@ -220,7 +223,7 @@ struct wal_reader_reply wal_register_reader_for_snapshot(
     struct wal_shared_read_mark *registry, size_t registry_len, const uint8_t *card, size_t card_len, uint64_t owner,
     uint64_t mark);
 
-/* The same at mark 0: a reader of the database file alone. */
+/* The same at mark 0: a reader of the database file alone. Refusals 1, 2, 9, 13, 14. */
 struct wal_reader_reply wal_register_db_file_reader(
     size_t n, uint32_t mode, uint64_t *bitmap, size_t bitmap_len, uint64_t *reader_frames, size_t reader_frames_len,
     uint64_t *reader_owners, size_t reader_owners_len, uint64_t *local_readers, size_t local_readers_len,

@@ -169,6 +169,10 @@ pub struct Memory<'a> {
 
 impl Memory<'_> {
     /// Makes it fresh, with so many starting blocks in use. Cells of pages and frames stay as they are.
+    ///
+    /// # Panics
+    ///
+    /// If the bitmap has fewer words than the settings ask.
     pub fn make_fresh(&mut self, settings: &Settings, starting_blocks: u32) {
         *self.header = Header { frame_index_blocks: starting_blocks, ..Header::default() };
         self.hash.fill(0);

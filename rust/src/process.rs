@@ -198,7 +198,7 @@ impl<L: ByteLocks> Process<L> {
         raw::bump_checkpoint_epoch(memory.header)
     }
 
-    /// Takes the writer lock. `false` if it is held, here or by another process.
+    /// Takes the writer lock. `false` if it is held, here or by another process, or could not be asked.
     pub fn try_acquire_writer(&mut self, memory: &mut Memory<'_>, owner: SharedOwnerRecord) -> Result<bool, Refusal> {
         self.try_acquire(Lock::Writer, memory, owner)
     }
@@ -208,7 +208,7 @@ impl<L: ByteLocks> Process<L> {
         self.release(Lock::Writer, memory, owner)
     }
 
-    /// Takes the checkpoint lock. `false` if it is held, here or by another process.
+    /// Takes the checkpoint lock. `false` if it is held, here or by another process, or could not be asked.
     pub fn try_acquire_checkpoint(
         &mut self,
         memory: &mut Memory<'_>,
@@ -250,7 +250,7 @@ impl<L: ByteLocks> Process<L> {
         Ok(())
     }
 
-    /// Takes a reader slot of its own at a mark. `None` if every slot is taken.
+    /// Takes a reader slot of its own at a mark. `None` if no slot could be locked.
     ///
     /// ```
     /// # use wal_coordination::*;

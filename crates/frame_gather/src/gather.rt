@@ -1,4 +1,4 @@
-// The visible entries that the hash names, from the last down.
+// Of the visible entries that the hash names, from the last down, at least each page's latest.
 use page_sort::cell_of;
 ghost use mathlib.Core.Path.{_≡_};
 ghost use mathlib.Core.Bool.{true};
@@ -118,7 +118,8 @@ fn gather_block(
     count
 }
 
-// Block by block from the last visible one down.
+// Block by block from the last visible one down. Answers how many entries are in the list; one may be left out where a later
+// one of its page is there.
 pub fn gather(pages: &[u64], hash: &[u16], visible: usize, list: &mut [u16]) -> usize
     requires { ⌜ ((visible ≤ 65536) × (8192 * ((visible + 4095) / 4096) ≤ length (now hash))) × (visible ≤ length (now list)) ⌝ }
     ensures { λ r. ⌜ (r ≤ visible) × ((page : ℕ) → head-of (now (pages .entry)) page (take r (now (list .exit))) ≡ head-of (now (pages .entry)) page (down (now (hash .entry)) visible)) ⌝ }

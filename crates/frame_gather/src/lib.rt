@@ -1,2 +1,2 @@
-// The first part of a list: the visible entries that the hash names.
+// The first part of a list: of the visible entries that the hash names, at least each page's latest.
 pub mod gather;

@@ -1,8 +1,8 @@
 -- find_frame (document 01, "find_frame"). Assumes nothing.
-use mathlib.Core.Bool.{Bool, _&&_, cond}
+use mathlib.Core.Bool.{cond}
 use mathlib.Core.List.{List, []}
 use Prim.Native.Nat.{ℕ, zero, suc, _+_, _-_, _*_, _/_, _≤_, min}
-use lib.Dec.{eqb, leb, ltb}
+use lib.Dec.{leb, ltb}
 use lib.ListN.{getD}
 use Rattle.wal_types.specs.Settings.{within}
 use Rattle.wal_types.specs.Memory.{Memory}

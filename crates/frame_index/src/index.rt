@@ -2,7 +2,7 @@
 use hash_block::Cell;
 use wal_types::Header;
 ghost use mathlib.Core.Path.{_≡_};
-ghost use Prim.Native.Nat.{ℕ, _+_, _*_, _<_, _≤_};
+ghost use Prim.Native.Nat.{_+_, _*_, _<_, _≤_};
 ghost use lib.ListN.{length, set};
 ghost use Rattle.hash_block.specs.Block.{cleared, empty-cell, built};
 ghost use Rattle.frame_index.specs.Index.{bad-settings, short-index, index-refusal, block-cells-of, block-pages-of, with-block};

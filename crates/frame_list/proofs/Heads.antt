@@ -10,7 +10,11 @@ use Rattle.frame_gather.specs.Gathered.{head-of}
 use Rattle.frame_gather.proofs.Gathered.{head-nil, head-same, head-other}
 use Rattle.page_choice.specs.Chosen.{firsts-after, firsts}
 use Rattle.page_choice.proofs.Chosen.{firsts-nil, firsts-skip, firsts-take}
-use Rattle.frame_list.specs.Heads.{heads}
+
+-- the first entries of the pages below n, by rising page: how the code comes to the latest entries
+unfoldable pub heads : List ℕ → ℕ → List ℕ → List ℕ
+heads pages zero l = []
+heads pages (suc n) l = heads pages n l ++ head-of pages n l
 
 -- every entry's page is below n
 pub data Below (pages : List ℕ) (n : ℕ) : List ℕ → Type 0 where

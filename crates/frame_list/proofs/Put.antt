@@ -14,8 +14,7 @@ use Rattle.frame_gather.specs.Gathered.{down, head-of}
 use Rattle.frame_gather.proofs.Gathered.{head-nil, head-same, head-other}
 use Rattle.page_choice.specs.Chosen.{firsts}
 use Rattle.frame_list.specs.Latest.{put-entry, latest}
-use Rattle.frame_list.specs.Heads.{heads}
-use Rattle.frame_list.proofs.Heads.{Below, none-below, more-below, heads-next, heads-nil, heads-agree, heads-beyond, below-heads, firsts-by-page}
+use Rattle.frame_list.proofs.Heads.{heads, Below, none-below, more-below, heads-next, heads-nil, heads-agree, heads-beyond, below-heads, firsts-by-page}
 
 -- what holds for a below b, for a equal to b, and for a above b
 pub by-order : (P : Type 0) (a b : ℕ) → (a < b → P) → (a ≡ b → P) → (b < a → P) → P

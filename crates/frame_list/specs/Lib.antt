@@ -1,5 +1,4 @@
--- iter_latest_frames: what it lists, what it gives; and how the code comes to it.
+-- iter_latest_frames: what it lists, and what it gives.
 pub mod Latest
 pub mod Result
-pub mod Heads
 pub mod Written

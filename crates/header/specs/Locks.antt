@@ -1,6 +1,6 @@
 -- The writer and the checkpoint lock (document 01, "Locks"). Assumes nothing.
 use mathlib.Core.Path.{_≡_}
-use mathlib.Core.Bool.{Bool, true, false, not, _&&_, cond}
+use mathlib.Core.Bool.{true, false, not, _&&_, cond}
 use mathlib.Core.List.{List, [], _∷_}
 use Prim.Native.Nat.{ℕ}
 use lib.Dec.{eqb, ltb}
@@ -10,7 +10,7 @@ use Rattle.wal_types.specs.Settings.{is-fcntl}
 use Rattle.wal_types.specs.Memory.{Memory, Process, with-header}
 use Rattle.wal_types.specs.Store.{HeaderCell, to-header, writer-owner, checkpoint-owner}
 use Rattle.wal_types.specs.Refusal.{Test, _if_, not-held, other-owner, no-owner, card}
-use Rattle.wal_types.specs.Call.{Call, Outcome, Answer, refused, ok, flag, unless, after, done}
+use Rattle.wal_types.specs.Call.{Call, Answer, refused, ok, flag, unless, after, done}
 use Rattle.header.specs.declared.locks.Lock.{Lock}
 use Rattle.header.specs.declared.locks.Lock.the-variants.{Writer, Checkpoint}
 use Rattle.header.specs.declared.locks.Acquire.{Acquire}

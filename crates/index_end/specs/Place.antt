@@ -1,4 +1,4 @@
--- Where a record's entry goes (document 01, "record_frame"). Assumes nothing.
+-- Where a record's entry goes, and which frames are out of order (document 01, "record_frame"). Assumes nothing.
 use mathlib.Core.Bool.{Bool, not, _&&_, _||_, cond}
 use mathlib.Core.List.{List}
 use Prim.Native.Nat.{ℕ, _+_, _-_}

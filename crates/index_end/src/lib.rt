@@ -1,3 +1,3 @@
-// The end of the index: whether and where an entry goes there, and how many entries stay before it.
+// The end of the index: where a record's entry goes, whether its frame is in order, and how many entries a rollback keeps.
 pub mod kept;
 pub mod place;

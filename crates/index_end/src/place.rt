@@ -1,4 +1,4 @@
-// Where a record's entry goes, and the header that it finds and leaves.
+// Where a record's entry goes and which frames are out of order; the header that a record finds and leaves.
 use wal_types::Header;
 ghost use mathlib.Core.Path.{_≡_};
 ghost use Prim.Native.Nat.{_+_, _<_, _≤_};

@@ -1,4 +1,5 @@
--- Words for the contracts of the inner functions, by the calls' own definitions. No contract of a call cites them. Assumes nothing.
+-- Words for the contracts of the inner functions: the calls' tests, over single cells and lists. No contract of a call cites
+-- them. Assumes nothing.
 use mathlib.Core.Bool.{Bool, true, false, not, _&&_, _||_}
 use mathlib.Core.List.{List, [], _∷_}
 use Prim.Native.Nat.{ℕ}

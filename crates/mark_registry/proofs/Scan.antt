@@ -1,12 +1,12 @@
 -- Scans of the registry, one record or four at a time. Assumes nothing.
 use mathlib.Core.Path.{_≡_, refl, sym, ap, subst, _∙_}
-use mathlib.Core.Bool.{Bool, true, false, not, _&&_, _||_, cond}
+use mathlib.Core.Bool.{Bool, true, false, not, _||_, cond}
 use mathlib.Core.List.{List, [], _∷_}
 use Prim.Native.Nat.{ℕ, zero, suc, _+_, _-_, _≤_, _<_, min}
 use native.Mathlib.Decide.{decLe}
 use native.Mathlib.Numerals.{add-one}
 use native.Mathlib.Omega.{arith}
-use lib.Dec.{T, eqb}
+use lib.Dec.{T}
 use lib.ListN.{length, getD}
 use Rattle.wal_types.specs.declared.SharedReadMark.{SharedReadMark}
 use Rattle.wal_types.specs.Memory.{no-mark}
@@ -16,8 +16,8 @@ use Rattle.mark_registry.specs.declared.Record.the-variants.{At, Nothing
 use Rattle.mark_registry.specs.declared.Wanted.{Wanted}
 use Rattle.mark_registry.specs.declared.Wanted.the-variants.{Mark, Slot, Empty}
 use Rattle.mark_registry.specs.declared.Found.{Found}
-use Rattle.mark_registry.specs.Registry.{first-record, record-of, empty-record, is-empty}
-use Rattle.mark_registry.specs.Scan.{picks, none-picked, stop-at, nothing-found, found-here, found-at, found-of, is-found, seen-alone, seen-with, empty-unless, item-at, seen-of}
+use Rattle.mark_registry.specs.Registry.{first-record, record-of, empty-record}
+use Rattle.mark_registry.specs.Scan.{picks, none-picked, nothing-found, found-here, found-at, found-of, is-found, seen-alone, seen-with, empty-unless, item-at, seen-of}
 
 -- the first record found, with one record more at the end
 abbrev first-of : Record → Bool → ℕ → Record
@@ -60,6 +60,11 @@ stays test registry i k (suc d) e =
 first-kept : (r : Record) (i : ℕ) → first-of r false i ≡ r
 first-kept (At k) i = refl
 first-kept Nothing i = refl
+
+-- where a scan of so many records stops: at the record found, or else at their end
+abbrev pub stop-at : ℕ → Record → ℕ
+stop-at end (At i) = i
+stop-at end Nothing = end
 
 -- a scan for what the test picks, among so many records: where it is to stop, after i of them
 module _ (test : SharedReadMark → Bool) (registry : List SharedReadMark) (end : ℕ) where

@@ -28,12 +28,7 @@ wants-use Empty = false
 unfoldable pub none-picked : Wanted → SharedReadMark → SharedReadMark → SharedReadMark → SharedReadMark → Bool
 none-picked wanted a b c d = not (picks wanted a || picks wanted b || picks wanted c || picks wanted d)
 
--- where a scan of so many records stops: at the record found, or else at their end
-abbrev pub stop-at : ℕ → Record → ℕ
-stop-at end (At i) = i
-stop-at end Nothing = end
-
--- what it finds: the first of so many records that the test picks
+-- what a scan finds: the first of so many records that the test picks
 abbrev pub nothing-found : Found
 nothing-found = record { place = Nothing; item = no-mark }
 

@@ -1,4 +1,5 @@
 // The registry of shared marks: a lent slice of records, one for each mark that connections of this process share.
+use reader_slots::available;
 use wal_types::SharedOwnerRecord;
 use wal_types::SharedReadMark;
 ghost use mathlib.Core.Path.{_≡_};
@@ -35,12 +36,6 @@ pub struct Seen {
     pub place: Record,
     pub item: SharedReadMark,
     pub empty: Record,
-}
-
-fn smaller(a: usize, b: usize) -> usize
-    ensures { λ r. ⌜ r ≡ min a b ⌝ }
-{
-    if a < b { a } else { b }
 }
 
 // Whether the record is wanted.
@@ -136,7 +131,7 @@ fn see(stop: usize, i: usize, m: SharedReadMark, wanted: Wanted) -> usize
 fn first_record(registry: &[SharedReadMark], n: usize, wanted: Wanted) -> Found
     ensures { λ r. ⌜ r ≡ found-of (picks wanted) (now (registry .entry)) (min n (length (now (registry .entry)))) ⌝ }
 {
-    let end = smaller(n, registry.len());
+    let end = available::smaller(n, registry.len());
     let mut stop = end;
     let mut i = 0;
     while i < stop {

@@ -54,7 +54,7 @@ fn slot_in_word(word: u64, first: usize, end: usize, local_readers: &[u64], card
     Slot::Nothing
 }
 
-fn smaller(a: usize, b: usize) -> usize
+pub fn smaller(a: usize, b: usize) -> usize
     ensures { λ r. ⌜ r ≡ min a b ⌝ }
 {
     if a < b { a } else { b }

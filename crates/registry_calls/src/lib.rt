@@ -1,3 +1,4 @@
-// The calls that are lent the registry of shared marks: on a shared mark, and on a slot that may be one's.
+// The calls that are lent the registry of shared marks: those on a shared mark, and the direct move and release, which
+// refuse a slot of the registry.
 pub mod direct;
 pub mod shared;

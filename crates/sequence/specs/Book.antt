@@ -1,5 +1,5 @@
 -- The book (document 01, "Book"): fed the calls' arguments and answers alone, never memory. Assumes nothing.
-use mathlib.Core.Bool.{Bool, _&&_, cond}
+use mathlib.Core.Bool.{_&&_, cond}
 use mathlib.Core.List.{List, [], _∷_, _++_}
 use Prim.Native.Nat.{ℕ, max}
 use lib.Dec.{eqb}

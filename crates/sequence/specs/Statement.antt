@@ -3,7 +3,6 @@ use mathlib.Core.Path.{_≡_}
 use mathlib.Core.List.{List, [], _∷_, _++_}
 use Prim.Native.Nat.{ℕ, _≤_}
 use Rattle.wal_types.specs.Call.{Pair, Answer, value, frame-found, listed}
-use Rattle.frame_index.specs.declared.find.Watermark.{Watermark}
 use Rattle.frame_index.specs.declared.find.Watermark.the-variants.{UpTo, NoWatermark}
 use Rattle.frame_index.specs.Find.{lookup-answer}
 use Rattle.grown_index.specs.Entries.{greatest}

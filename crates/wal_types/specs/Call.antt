@@ -1,6 +1,6 @@
 -- What a call means: an answer, its stores to shared memory in order, and its process's own cells and registry afterwards. Assumes nothing.
 use mathlib.Core.Bool.{Bool}
-use mathlib.Core.List.{List, [], _∷_}
+use mathlib.Core.List.{List, []}
 use Prim.Native.Nat.{ℕ, zero, suc}
 use Rattle.wal_types.specs.Memory.{Memory, Process}
 use Rattle.wal_types.specs.Store.{Store, Piece, apply}

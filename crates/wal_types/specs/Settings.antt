@@ -17,10 +17,6 @@ capacity-in-limits capacity = within 1 65536 capacity
 abbrev pub max-blocks-in-limits : ℕ → Bool
 max-blocks-in-limits b = within 1 16 b
 
--- starting blocks 0..B
-abbrev pub start-in-limits : ℕ → ℕ → Bool
-start-in-limits b start = leb start b
-
 -- slots n 1..256
 abbrev pub slots-in-limits : ℕ → Bool
 slots-in-limits n = within 1 256 n

@@ -56,9 +56,9 @@ use Rattle.wal_types.proofs.SharedReadMark as T
 use Rattle.wal_types.proofs.SharedReadMark.Laws as T′
 use Rattle.mark_registry.specs.declared.Wanted.{Wanted}
 use Rattle.mark_registry.specs.declared.Found.{Found}
-use Rattle.mark_registry.specs.Scan.{picks, none-picked, stop-at, nothing-found, found-here, found-of}
+use Rattle.mark_registry.specs.Scan.{picks, none-picked, nothing-found, found-here, found-of}
 use Rattle.mark_registry.specs.Registry.{first-record}
-use Rattle.mark_registry.proofs.Scan.{stop-zero, stop-next, stop-four, stop-within, found-there, found-nothing, four-parts}
+use Rattle.mark_registry.proofs.Scan.{stop-at, stop-zero, stop-next, stop-four, stop-within, found-there, found-nothing, four-parts}
 use Rattle.mark_registry.proofs.Found as F
 use Rattle.mark_registry.proofs.Found.Laws as F′
 use Rattle.mark_registry.proofs.Wanted as K
@@ -79,10 +79,10 @@ use Rattle.mark_registry.proofs.nothing_found as start
 use Rattle.mark_registry.proofs.nothing_found.Symbol as start-def
 use Rattle.mark_registry.proofs.nothing_found.Symbol.{name as #mark-registry·nothing-found}
 use Rattle.mark_registry.proofs.nothing_found.Met as start-thm
-use Rattle.mark_registry.proofs.smaller as small
-use Rattle.mark_registry.proofs.smaller.Symbol as small-def
-use Rattle.mark_registry.proofs.smaller.Symbol.{name as #mark-registry·smaller}
-use Rattle.mark_registry.proofs.smaller.Met as small-thm
+use Rattle.reader_slots.proofs.available.smaller as small
+use Rattle.reader_slots.proofs.available.smaller.Symbol as small-def
+use Rattle.reader_slots.proofs.available.smaller.Symbol.{name as #reader-slots·available·smaller}
+use Rattle.reader_slots.proofs.available.smaller.Met as small-thm
 use Rattle.mark_registry.proofs.first_record.Key.{name as #mark-registry·first-record}
 use Rattle.mark_registry.proofs.first_record as find
 use Rattle.mark_registry.proofs.first_record.Statement as stated
@@ -481,7 +481,7 @@ module _ {M : Type 1} (𝓤 : URA M) (H : Heap 𝓤) (A : Atoms 𝓤) (W : Given
     looped = first ! $ blocks ! $ loops ! 𝓣 Nearer Nearer-wf At turns (0, zero-le)
 
   -- the MIR up to the loop
-  walk : (𝓣 : Tables 𝓤 H) → Triple 𝓤 (𝓣 .C #mark-registry·smaller) (Small 𝓤 H A mem run) → Triple 𝓤 (𝓣 .C #mark-registry·nothing-found) (Start 𝓤 H A mem run) → Triple 𝓤 (𝓣 .C #mark-registry·see) (Core 𝓤 H A mem run) → Triple 𝓤 (𝓣 .C #mark-registry·none-wanted) (Fours 𝓤 H A mem run) → Triple 𝓤 (𝓣 .C #mark-registry·found-here) (Here 𝓤 H A mem run) → ent 𝓤 (onEntry 𝓤 H A find.signature (κ, tt) (q, tt) a at)
+  walk : (𝓣 : Tables 𝓤 H) → Triple 𝓤 (𝓣 .C #reader-slots·available·smaller) (Small 𝓤 H A mem run) → Triple 𝓤 (𝓣 .C #mark-registry·nothing-found) (Start 𝓤 H A mem run) → Triple 𝓤 (𝓣 .C #mark-registry·see) (Core 𝓤 H A mem run) → Triple 𝓤 (𝓣 .C #mark-registry·none-wanted) (Fours 𝓤 H A mem run) → Triple 𝓤 (𝓣 .C #mark-registry·found-here) (Here 𝓤 H A mem run) → ent 𝓤 (onEntry 𝓤 H A find.signature (κ, tt) (q, tt) a at)
       (WpFn 𝓤 H (𝓣 .C) (𝓣 .Λ) code.function (s ∷ vint w64 n ∷ wval w ∷ []) Post)
   walk 𝓣 known-small known-start known known-fours known-here =
       qed W ((‵ (flft κ q) ⊛ ‵ ftrue) ∷ ‵ (owns (ShrSlice (named 0) κ R ∷ usize ∷ K.the-row ∷ []) a at) ∷ []) ∵ enter ! (𝓣 .C) (𝓣 .Λ) code.function (s ∷ vint w64 n ∷ wval w ∷ []) _ $
@@ -503,7 +503,7 @@ module _ {M : Type 1} (𝓤 : URA M) (H : Heap 𝓤) (A : Atoms 𝓤) (W : Given
       keep ! (0 ∷ 1 ∷ 2 ∷ 4 ∷ 5 ∷ 7 ∷ 8 ∷ 9 ∷ 10 ∷ 11 ∷ 12 ∷ 13 ∷ 14 ∷ 15 ∷ 16 ∷ 17 ∷ 18 ∷ 19 ∷ 20 ∷ 21 ∷ 22 ∷ 23 ∷ 24 ∷ 25 ∷ 26 ∷ 27 ∷ 28 ∷ 29 ∷ 30 ∷ 31 ∷ 32 ∷ 33 ∷ 34 ∷ 35 ∷ 36 ∷ 37 ∷ 38 ∷ 39 ∷ 40 ∷ 41 ∷ 42 ∷ 43 ∷ 44 ∷ 45 ∷ 46 ∷ 47 ∷ 48 ∷ 49 ∷ 50 ∷ 51 ∷ 52 ∷ 53 ∷ 54 ∷ 55 ∷ 56 ∷ 57 ∷ 58 ∷ 59 ∷ 60 ∷ 61 ∷ 62 ∷ 63 ∷ 64 ∷ 65 ∷ 66 ∷ 67 ∷ 68 ∷ 69 ∷ 70 ∷ 71 ∷ 72 ∷ []) $
       looped 𝓣 known known-fours known-here known-start q′ l₀ l₁ l₂ l₃ l₄ l₅ l₆ l₇ l₈ l₉ l₁₀ l₁₁ l₁₂ l₁₃ l₁₄ l₁₅ l₁₆ l₁₇ l₁₈ l₁₉ l₂₀ l₂₁ l₂₂ l₂₃ l₂₄ l₂₅ l₂₆ l₂₇ l₂₈ l₂₉ l₃₀ l₃₁ l₃₂))))))))))))))))))))))))))))))))))))))
 
-module _ {M : Type 1} (𝓤 : URA M) (H : Heap 𝓤) (A : Atoms 𝓤) (W : Given 𝓤 H A) (mem : Memory → SProp 𝓤) (run : Routine → Fun 𝓤) (𝓣 : Tables 𝓤 H) (known-small : Triple 𝓤 (𝓣 .C #mark-registry·smaller) (Small 𝓤 H A mem run)) (known-start : Triple 𝓤 (𝓣 .C #mark-registry·nothing-found) (Start 𝓤 H A mem run)) (known : Triple 𝓤 (𝓣 .C #mark-registry·see) (Core 𝓤 H A mem run)) (known-fours : Triple 𝓤 (𝓣 .C #mark-registry·none-wanted) (Fours 𝓤 H A mem run)) (known-here : Triple 𝓤 (𝓣 .C #mark-registry·found-here) (Here 𝓤 H A mem run)) where
+module _ {M : Type 1} (𝓤 : URA M) (H : Heap 𝓤) (A : Atoms 𝓤) (W : Given 𝓤 H A) (mem : Memory → SProp 𝓤) (run : Routine → Fun 𝓤) (𝓣 : Tables 𝓤 H) (known-small : Triple 𝓤 (𝓣 .C #reader-slots·available·smaller) (Small 𝓤 H A mem run)) (known-start : Triple 𝓤 (𝓣 .C #mark-registry·nothing-found) (Start 𝓤 H A mem run)) (known : Triple 𝓤 (𝓣 .C #mark-registry·see) (Core 𝓤 H A mem run)) (known-fours : Triple 𝓤 (𝓣 .C #mark-registry·none-wanted) (Fours 𝓤 H A mem run)) (known-here : Triple 𝓤 (𝓣 .C #mark-registry·found-here) (Here 𝓤 H A mem run)) where
   find-walks : Walks 𝓤 H A find.ended stayed (WpFn 𝓤 H (𝓣 .C) (𝓣 .Λ) code.function) (find.clauses 𝓤 H A mem run)
   find-walks = walked 𝓤 H A find.ended stayed (find.clauses 𝓤 H A mem run) (WpFn 𝓤 H (𝓣 .C) (𝓣 .Λ) code.function) (λ κs. (slice-vals, (uint-vals w64, (EL.vals K.the-type K′.the-laws, tt)))) (λ κs. (shr-slice-tells (named 0) (κs .0) R, (uint-tells w64, (EL.tells K.the-type K′.the-laws, tt))))
       (λ κs qs bounds a g are. via 𝓤 _ (fst∗ 𝓤 _ (emp 𝓤))
@@ -520,7 +520,7 @@ first-record-spec 𝓤 H 𝓜 𝓖 𝓡 =
     entered 𝓤 H (tripleOf 𝓤 H (𝓖 .A) find.signature (find.spec 𝓤 H (𝓖 .A) (𝓜 .mem) (𝓡 .run)))
     (tables 𝓤 H 𝓜 𝓡 code.env .C) (tables 𝓤 H 𝓜 𝓡 code.env .Λ) #mark-registry·first-record code.function (code.unfolded 𝓤 H 𝓜 𝓡)
     (find-meets 𝓤 H (𝓖 .A) (givenOf 𝓤 H 𝓜 𝓖) (𝓜 .mem) (𝓡 .run) (tablesOf 𝓤 H 𝓜 (tables 𝓤 H 𝓜 𝓡 code.env))
-    (cited 𝓤 H (Small 𝓤 H (𝓖 .A) (𝓜 .mem) (𝓡 .run)) 𝓜 𝓡 code.env #mark-registry·smaller small-def.routine code.calls-mark-registry·smaller (small-thm.met 𝓤 H 𝓜 𝓖 𝓡))
+    (cited 𝓤 H (Small 𝓤 H (𝓖 .A) (𝓜 .mem) (𝓡 .run)) 𝓜 𝓡 code.env #reader-slots·available·smaller small-def.routine code.calls-reader-slots·available·smaller (small-thm.met 𝓤 H 𝓜 𝓖 𝓡))
     (cited 𝓤 H (Start 𝓤 H (𝓖 .A) (𝓜 .mem) (𝓡 .run)) 𝓜 𝓡 code.env #mark-registry·nothing-found start-def.routine code.calls-mark-registry·nothing-found (start-thm.met 𝓤 H 𝓜 𝓖 𝓡))
     (cited 𝓤 H (Core 𝓤 H (𝓖 .A) (𝓜 .mem) (𝓡 .run)) 𝓜 𝓡 code.env #mark-registry·see core-def.routine code.calls-mark-registry·see (core-thm.met 𝓤 H 𝓜 𝓖 𝓡))
     (cited 𝓤 H (Fours 𝓤 H (𝓖 .A) (𝓜 .mem) (𝓡 .run)) 𝓜 𝓡 code.env #mark-registry·none-wanted fours-def.routine code.calls-mark-registry·none-wanted (fours-thm.met 𝓤 H 𝓜 𝓖 𝓡))
