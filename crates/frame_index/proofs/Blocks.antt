@@ -1,10 +1,10 @@
 -- One block's hash as a part of the whole. Assumes nothing.
-use mathlib.Core.Path.{_≡_, refl, _∙_, sym, ap}
-use mathlib.Core.List.{List, _++_, append-assoc}
+use mathlib.Core.Path.{_≡_, _∙_, sym}
+use mathlib.Core.List.{List}
 use Prim.Native.Nat.{ℕ, _+_, _-_, _*_, _<_, _≤_}
 use native.Mathlib.Omega.{arith}
-use lib.ListN.{length, take, drop, set, getD, length-append, length-take, length-drop, length-set}
-use lib.Seq.{take-at, drop-at, drop-drop, getD-take, getD-drop, length-take-le, set-append-left}
+use lib.ListN.{length, take, drop, set, getD, length-append, length-take, length-drop}
+use lib.Seq.{take-at, drop-at, getD-take, getD-drop, length-take-le}
 use borrow.Rule.Slice.PartMut.{putMid, set-mid-at}
 use Rattle.frame_index.specs.Index.{block-cells-of, block-pages-of, with-block}
 

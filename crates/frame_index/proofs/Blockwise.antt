@@ -4,7 +4,7 @@ use mathlib.Core.Bool.{cond}
 use mathlib.Core.List.{List}
 use Prim.Native.Nat.{ℕ, zero, suc, _+_, _-_, _*_, _<_, _≤_, min}
 use native.Mathlib.Omega.{arith}
-use lib.ListN.{length, getD}
+use lib.ListN.{getD}
 use borrow.Author.Tests.{le-leb, lt-leb}
 use Rattle.wal_types.specs.Settings.{within}
 use Rattle.hash_block.specs.declared.Probe.{Probe}
@@ -13,7 +13,7 @@ use Rattle.hash_block.proofs.Probed.{probe-below}
 use Rattle.frame_index.specs.declared.find.Lookup.{Lookup}
 use Rattle.frame_index.specs.declared.find.Lookup.the-variants.{Frame, NoFrame}
 use Rattle.frame_index.specs.Index.{block-cells-of, block-pages-of}
-use Rattle.frame_index.specs.Find.{probe-block, looked-up, else-look, find-in, blocks-for}
+use Rattle.frame_index.specs.Find.{probe-block, looked-up, else-look, find-in}
 
 -- the place that a block's probe finds is one of its 4,096
 pub probed-place : (k page n i : ℕ) (ps hs : List ℕ) (r : Probe) → r ≡ probe-block k page n ps hs → r ≡ At i → i < 4096

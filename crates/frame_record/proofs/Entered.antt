@@ -1,25 +1,22 @@
 -- An entry's stores in closed form. Assumes nothing.
 use mathlib.Core.Path.{_≡_, refl, sym, _∙_, ap}
-use mathlib.Core.Bool.{Bool, true, false}
 use mathlib.Core.List.{List, [], _∷_, _++_, append-assoc}
-use Prim.Native.Nat.{ℕ, zero, suc, _+_, _*_, _/_, _%_, _<_, _≤_}
+use Prim.Native.Nat.{ℕ, zero, suc, _+_, _*_, _≤_}
 use native.Mathlib.Omega.{arith}
-use native.Mathlib.Numerals.{add-one}
 use lib.Dec.{eqb}
 use lib.ListN.{length, take, drop, set, replicate, getD, length-append, length-drop, length-replicate, take-append-drop}
 use lib.Seq.{set-at, length-take-le, append-snoc}
 use borrow.Author.Tests.{eq-eqb, ne-eqb}
 use Rattle.wal_types.specs.declared.Header.{Header}
 use Rattle.wal_types.specs.Memory.{Memory}
-use Rattle.wal_types.specs.Store.{Store, to-header, to-page, to-frame, frame-index-len, header-with, put, apply, Piece, one, when, _then_}
+use Rattle.wal_types.specs.Store.{to-header, to-page, to-frame, frame-index-len, header-with, apply, one, when, _then_}
 use Rattle.wal_types.proofs.Stores.{then-leaves, when-leaves, when-not}
 use Rattle.hash_block.specs.declared.Cell.{Cell}
-use Rattle.hash_block.specs.declared.Cell.the-variants.{Empty, Full}
+use Rattle.hash_block.specs.declared.Cell.the-variants.{Empty}
 use Rattle.hash_block.specs.Home.{home}
 use Rattle.hash_block.specs.Block.{cleared, empty-from, empty-cell, inserted}
 use Rattle.hash_block.proofs.Built.{cleared-empty}
 use Rattle.hash_block.proofs.Empty.{inserted-at, found-below}
-use Rattle.hash_block.proofs.Home.{home-below}
 use Rattle.frame_index.specs.Index.{block-of, place-of, block-cells-of, with-block, zero-stores, clear-block, name-stores, insert-entry, index-in}
 use Rattle.frame_record.specs.Record.{enter}
 use Rattle.frame_index.proofs.Blocks.{block-of-with, length-with, with-with, set-in-block}

@@ -1,17 +1,16 @@
 -- What is known of the place of a new entry. Assumes nothing.
-use mathlib.Core.Path.{_≡_, refl, sym, _∙_, ap}
+use mathlib.Core.Path.{_≡_, refl, ap}
 use mathlib.Core.Bool.{Bool, true, false, not, _&&_, _||_, cond}
-use Prim.Native.Nat.{ℕ, _+_, _*_, _/_, _<_, _≤_}
+use Prim.Native.Nat.{ℕ, _+_, _*_, _<_, _≤_}
 use native.Mathlib.Omega.{arith}
 use lib.Dec.{leb}
-use borrow.Author.Tests.{leb-true, leb-false}
+use borrow.Author.Tests.{leb-false}
 use Rattle.wal_types.specs.declared.Header.{Header}
 use Rattle.wal_types.specs.Settings.{entries-for}
 use Rattle.wal_types.specs.Store.{frame-index-len, frame-index-overflowed, frame-index-blocks, header-with}
-use Rattle.index_end.specs.declared.place.Place.{Place}
 use Rattle.index_end.specs.declared.place.Place.the-variants.{AtEnd, NoPlace}
 use Rattle.frame_index.specs.Index.{HasRoom}
-use Rattle.index_end.specs.Place.{resets, started, blocks-full, drops, placed}
+use Rattle.index_end.specs.Place.{resets, started, blocks-full, placed}
 use Rattle.frame_index.proofs.Settings.{GoodSettings, LongEnough}
 
 module _ (frame : ℕ) (h : Header) where

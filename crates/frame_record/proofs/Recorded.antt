@@ -1,27 +1,23 @@
 -- record_frame by its cases. Assumes nothing.
 use mathlib.Core.Path.{_≡_, refl, sym, _∙_, ap}
-use mathlib.Core.Bool.{Bool, true, false, not, _&&_, cond, true≢false, false≢true}
-use mathlib.Core.List.{List, [], _∷_, _++_}
-use Prim.Native.Nat.{ℕ, zero, suc, _+_, _*_, _<_, _≤_}
-use native.Mathlib.Omega.{arith}
-use lib.Dec.{eqb}
+use mathlib.Core.Bool.{Bool, true, false, not, _&&_, cond}
+use mathlib.Core.List.{List, [], _∷_}
+use Prim.Native.Nat.{ℕ, _+_, _*_, _≤_}
 use lib.ListN.{length, set}
 use borrow.Author.Tests.{eq-eqb, ne-eqb}
 use Rattle.wal_types.specs.declared.Header.{Header}
 use Rattle.wal_types.specs.Memory.{Memory, Process}
-use Rattle.wal_types.specs.Store.{to-header, frame-index-len, frame-index-overflowed, frame-index-blocks, header-with, apply, Piece, one, when, _then_}
+use Rattle.wal_types.specs.Store.{to-header, frame-index-len, frame-index-overflowed, frame-index-blocks, header-with, apply, one, when, _then_}
 use Rattle.wal_types.specs.Refusal.{Test, lowest, _if_, frame-order, hash-full}
-use Rattle.wal_types.specs.Call.{Outcome, Answer, refused, stored, dropped, Done, done, after, unless}
+use Rattle.wal_types.specs.Call.{refused, stored, dropped, done, after, unless}
 use Rattle.wal_types.proofs.Stores.{then-leaves}
 use Rattle.wal_types.proofs.Refusals.{call-accepted}
-use Rattle.hash_block.specs.declared.Cell.{Cell}
 use Rattle.hash_block.specs.declared.Cell.the-variants.{Empty, Full}
 use Rattle.hash_block.specs.Block.{cleared, empty-cell, inserted}
-use Rattle.index_end.specs.declared.place.Place.{Place}
 use Rattle.index_end.specs.declared.place.Place.the-variants.{AtEnd, NoPlace}
 use Rattle.frame_index.specs.Index.{block-of, place-of, block-cells-of, with-block, index-refusal, index-in}
 use Rattle.index_end.specs.Place.{resets, started, blocks-full, drops, placed, out-of-order}
-use Rattle.frame_record.specs.Record.{is-full, no-cell, reset-index, grow-index, enter, drop-stores, enter-stores, records, record-frame}
+use Rattle.frame_record.specs.Record.{no-cell, reset-index, grow-index, enter, enter-stores, records, record-frame}
 use Rattle.frame_index.proofs.Refused.{index-refused, index-passed}
 use Rattle.frame_record.proofs.Entered.{enter-first, enter-next}
 

@@ -1,21 +1,20 @@
 -- rollback_frames by its cases. Assumes nothing.
 use mathlib.Core.Path.{_≡_, refl, sym, _∙_, ap}
-use mathlib.Core.Bool.{true, false, not}
-use mathlib.Core.List.{List, [], _∷_, _++_}
-use Prim.Native.Nat.{ℕ, zero, suc, _+_, _-_, _*_, _/_, _%_, _<_, _≤_}
+use mathlib.Core.Bool.{not}
+use mathlib.Core.List.{List, []}
+use Prim.Native.Nat.{ℕ, zero, suc, _+_, _-_, _*_, _<_, _≤_}
 use native.Mathlib.Omega.{arith}
 use lib.Dec.{eqb, ltb}
 use lib.ListN.{length, getD, set}
 use borrow.Author.Tests.{eq-eqb, ne-eqb, lt-ltb, le-ltb}
 use Rattle.wal_types.specs.declared.Header.{Header}
 use Rattle.wal_types.specs.Memory.{Memory, Process}
-use Rattle.wal_types.specs.Store.{to-header, frame-index-len, header-with, apply, one, when, _then_}
+use Rattle.wal_types.specs.Store.{to-header, frame-index-len, header-with, apply, one, _then_}
 use Rattle.wal_types.specs.Refusal.{Test}
-use Rattle.wal_types.specs.Call.{Call, refused, kept, does, Done, done, after, unless}
+use Rattle.wal_types.specs.Call.{Call, refused, kept, does, done, after}
 use Rattle.wal_types.proofs.Stores.{then-leaves, when-leaves, when-not}
-use Rattle.hash_block.specs.declared.Cell.{Cell}
 use Rattle.hash_block.specs.declared.Cell.the-variants.{Empty}
-use Rattle.hash_block.specs.Block.{empty-cell, inserted, built}
+use Rattle.hash_block.specs.Block.{empty-cell, built}
 use Rattle.hash_block.proofs.Empty.{inserted-at}
 use Rattle.hash_block.proofs.Built.{built-none, built-next, built-length}
 use Rattle.hash_block.proofs.Used.{has-room}

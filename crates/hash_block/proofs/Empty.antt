@@ -12,7 +12,7 @@ use borrow.Author.Count.{below-more}
 use borrow.Author.Tests.{eqb-true, eqb-false}
 use Rattle.hash_block.specs.declared.Cell.{Cell}
 use Rattle.hash_block.specs.declared.Cell.the-variants.{Empty, Full}
-use Rattle.hash_block.specs.Home.{home, cell-at}
+use Rattle.hash_block.specs.Home.{cell-at}
 use Rattle.hash_block.specs.Block.{empty-from, empty-cell, named-in, inserted}
 use Rattle.hash_block.proofs.Home.{cell-at-home, cell-at-next, cell-at-below}
 

@@ -49,7 +49,7 @@ use Rattle.sequence.specs.Sequence.{find-op, World, Event, answer-of, ne
 use Rattle.sequence.specs.Book.{Book, empty-book, book-after, InPairs, here, there}
 use Rattle.sequence.specs.Hold.{accepted, holders-after, direct, shared, begins-direct, begins-shared, SharedLasts, EndsDirect, KeepsAbove, SameSlot, LeavesSlot}
 use Rattle.sequence.specs.Statement.{at-now, Premises, Demand3}
-use Rattle.sequence.specs.Example.{small, zeros, fresh-memory, fresh-process, fresh-world, reader, before, begin, during, answers, Held, answered, lookup, listing, floor, limit, begin-shared, during-shared, own-floor, Example}
+use Rattle.sequence.specs.Example.{small, zeros, fresh-memory, fresh-process, fresh-world, reader, before, begin, during, Held, answered, lookup, listing, floor, limit, begin-shared, during-shared, own-floor, Example}
 use Rattle.sequence.proofs.IndexStands.{fresh-stands, run-stands}
 use Rattle.sequence.proofs.Trace.{left-by, ComesTo, Trace, over, step, append, trace-run, trace-answers, trace-book, trace-lasts, throughout}
 use Rattle.sequence.proofs.Demand3.{demand-3}

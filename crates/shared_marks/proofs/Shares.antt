@@ -25,7 +25,7 @@ use Rattle.readers.specs.declared.register.Register.the-variants.{Taken, NoSlot
 use Rattle.readers.proofs.register.Register as RegisterType
 use Rattle.reader_slots.specs.Slots.{shorter, bad-card, slots-in, locals-in, ReaderCall}
 use Rattle.reader_slots.specs.Search.{found-slot, lowest-slot, either-slot, some-slot}
-use Rattle.readers.specs.Register.{available, first-slot, second-slot, chosen-slot, registers, register-tests, register-reader, reclaim-all, reclaimable, slot-answer, register-answer}
+use Rattle.readers.specs.Register.{first-slot, second-slot, chosen-slot, registers, register-tests, register-reader, reclaim-all, reclaimable, slot-answer, register-answer}
 use Rattle.reader_slots.specs.Inner.{available-by}
 use Rattle.reader_slots.proofs.Calls.{refuses, accepts}
 use Rattle.reader_slots.proofs.Some.{some-false}

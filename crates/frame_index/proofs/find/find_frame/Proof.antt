@@ -3,19 +3,12 @@ use Rattle.frame_index.proofs.Settings.{passed-settings, passed-long}
 use Rattle.frame_index.specs.Find.{lookup-answer}
 use Rattle.frame_index.specs.Index.{index-in}
 use Rattle.frame_index.specs.declared.find.Lookup.{Lookup}
-use Rattle.wal_types.specs.Call.{Answer, done}
+use Rattle.wal_types.specs.Call.{done}
 use mathlib.Core.Path.{sym, _∙_, ap}
 use native.Mathlib.Omega.{arith}
 use borrow.Author.Needs.{needs}
 use Rattle.frame_index.proofs.find.find_frame.Statement.{statement}
 use Rattle.frame_index.proofs.find.find_frame.Tie as tie
-use Rattle.frame_index.proofs.find.find_frame.Reads as reads
-use Rattle.frame_index.proofs.find.find_frame.Lts as lts
-use Rattle.frame_index.proofs.find.find_in_blocks.Reads as find-in-blocks-reads
-use Rattle.frame_index.proofs.find.lower_frame.Reads as lower-frame-reads
-use Rattle.frame_index.proofs.find.upper_frame.Reads as upper-frame-reads
-use Rattle.frame_index.proofs.find.visible_frame_index_slots.Reads as visible-frame-index-slots-reads
-use Rattle.frame_index.proofs.index.index_refusal.Reads as index-refusal-reads
 
 index-refusal-requires : tie.Need-index-refusal-requires
 index-refusal-requires c κs = search needs

@@ -3,9 +3,6 @@ use native.Mathlib.Omega.{arith}
 use borrow.Author.Needs.{needs}
 use Rattle.frame_index.proofs.find.find_in_block.Statement.{statement}
 use Rattle.frame_index.proofs.find.find_in_block.Tie as tie
-use Rattle.frame_index.proofs.find.find_in_block.Reads as reads
-use Rattle.frame_index.proofs.find.find_in_block.Lts as lts
-use Rattle.frame_index.proofs.find.probe_block.Reads as probe-block-reads
 
 probe-block-requires : tie.Need-probe-block-requires
 probe-block-requires c κs = search needs

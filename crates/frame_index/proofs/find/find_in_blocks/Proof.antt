@@ -6,9 +6,6 @@ use native.Mathlib.Omega.{arith}
 use borrow.Author.Needs.{needs}
 use Rattle.frame_index.proofs.find.find_in_blocks.Statement.{statement}
 use Rattle.frame_index.proofs.find.find_in_blocks.Tie as tie
-use Rattle.frame_index.proofs.find.find_in_blocks.Reads as reads
-use Rattle.frame_index.proofs.find.find_in_blocks.Lts as lts
-use Rattle.frame_index.proofs.find.find_in_block.Reads as find-in-block-reads
 
 abbrev Inv-loop : tie.InvT-loop
 Inv-loop pages frames hash page-id visible-slots min-frame max-frame k₀ k =

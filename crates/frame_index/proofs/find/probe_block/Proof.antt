@@ -1,12 +1,7 @@
 use Rattle.frame_index.proofs.Blocks.{mid-cells, mid-pages}
-use native.Mathlib.Omega.{arith}
 use borrow.Author.Needs.{needs}
 use Rattle.frame_index.proofs.find.probe_block.Statement.{statement}
 use Rattle.frame_index.proofs.find.probe_block.Tie as tie
-use Rattle.frame_index.proofs.find.probe_block.Reads as reads
-use Rattle.frame_index.proofs.find.probe_block.Lts as lts
-use Rattle.frame_index.proofs.find.entries_of_block.Reads as entries-of-block-reads
-use Rattle.hash_block.proofs.find_frame_in_block.Reads as find-frame-in-block-reads
 
 mul-a : tie.Need-mul-a
 mul-a c = search needs

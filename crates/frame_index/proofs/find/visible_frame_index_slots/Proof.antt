@@ -4,11 +4,8 @@ use lib.ListN.{length}
 use Rattle.frame_index.specs.Find.{visible-from, visible}
 use Rattle.frame_index.proofs.Search.{search-ends, search-up, search-down, search-starts}
 use native.Mathlib.Omega.{arith}
-use borrow.Author.Needs.{needs}
 use Rattle.frame_index.proofs.find.visible_frame_index_slots.Statement.{statement}
 use Rattle.frame_index.proofs.find.visible_frame_index_slots.Tie as tie
-use Rattle.frame_index.proofs.find.visible_frame_index_slots.Reads as reads
-use Rattle.frame_index.proofs.find.visible_frame_index_slots.Lts as lts
 
 abbrev Inv-loop : tie.InvT-loop
 Inv-loop frames len max-frame low₀ high₀ low high =

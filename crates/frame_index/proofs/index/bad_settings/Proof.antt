@@ -1,10 +1,7 @@
 use borrow.Author.Tests.{le-leb, lt-leb, le-ltb, lt-ltb}
-use native.Mathlib.Omega.{arith}
 use borrow.Author.Needs.{needs}
 use Rattle.frame_index.proofs.index.bad_settings.Statement.{statement}
 use Rattle.frame_index.proofs.index.bad_settings.Tie as tie
-use Rattle.frame_index.proofs.index.bad_settings.Reads as reads
-use Rattle.frame_index.proofs.index.bad_settings.Lts as lts
 
 returns : tie.Need-returns
 returns c = rw (lt-leb _ _ (c .if1 .taken))

@@ -1,12 +1,7 @@
 use Rattle.frame_index.proofs.Blocks.{mid-cells}
-use mathlib.Core.Path.{_∙_, ap}
-use native.Mathlib.Omega.{arith}
 use borrow.Author.Needs.{needs}
 use Rattle.frame_index.proofs.index.cell_in_block.Statement.{statement}
 use Rattle.frame_index.proofs.index.cell_in_block.Tie as tie
-use Rattle.frame_index.proofs.index.cell_in_block.Reads as reads
-use Rattle.frame_index.proofs.index.cell_in_block.Lts as lts
-use Rattle.hash_block.proofs.empty_cell.Reads as empty-cell-reads
 
 mul-a : tie.Need-mul-a
 mul-a c = search needs

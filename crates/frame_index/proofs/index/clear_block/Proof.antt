@@ -1,11 +1,7 @@
 use Rattle.frame_index.proofs.Blocks.{put-block}
-use native.Mathlib.Omega.{arith}
 use borrow.Author.Needs.{needs}
 use Rattle.frame_index.proofs.index.clear_block.Statement.{statement}
 use Rattle.frame_index.proofs.index.clear_block.Tie as tie
-use Rattle.frame_index.proofs.index.clear_block.Reads as reads
-use Rattle.frame_index.proofs.index.clear_block.Lts as lts
-use Rattle.hash_block.proofs.clear_frame_index_block_hash.Reads as clear-frame-index-block-hash-reads
 
 mul-a : tie.Need-mul-a
 mul-a c = search needs

@@ -1,13 +1,8 @@
 use mathlib.Core.Path.{sym, _∙_}
 use Rattle.frame_index.proofs.Settings.{good-settings}
-use native.Mathlib.Omega.{arith}
 use borrow.Author.Needs.{needs}
 use Rattle.frame_index.proofs.index.index_refusal.Statement.{statement}
 use Rattle.frame_index.proofs.index.index_refusal.Tie as tie
-use Rattle.frame_index.proofs.index.index_refusal.Reads as reads
-use Rattle.frame_index.proofs.index.index_refusal.Lts as lts
-use Rattle.frame_index.proofs.index.bad_settings.Reads as bad-settings-reads
-use Rattle.frame_index.proofs.index.short_index.Reads as short-index-reads
 
 bad-settings-requires : tie.Need-bad-settings-requires
 bad-settings-requires c κs = search needs

@@ -1,11 +1,7 @@
 use Rattle.frame_index.proofs.Blocks.{put-block, mid-cells}
-use native.Mathlib.Omega.{arith}
 use borrow.Author.Needs.{needs}
 use Rattle.frame_index.proofs.index.name_in_block.Statement.{statement}
 use Rattle.frame_index.proofs.index.name_in_block.Tie as tie
-use Rattle.frame_index.proofs.index.name_in_block.Reads as reads
-use Rattle.frame_index.proofs.index.name_in_block.Lts as lts
-use Rattle.hash_block.proofs.name_entry.Reads as name-entry-reads
 
 mul-a : tie.Need-mul-a
 mul-a c = search needs

@@ -1,11 +1,7 @@
 use Rattle.frame_index.proofs.Blocks.{put-block, mid-pages}
-use native.Mathlib.Omega.{arith}
 use borrow.Author.Needs.{needs}
 use Rattle.frame_index.proofs.index.rebuild_block.Statement.{statement}
 use Rattle.frame_index.proofs.index.rebuild_block.Tie as tie
-use Rattle.frame_index.proofs.index.rebuild_block.Reads as reads
-use Rattle.frame_index.proofs.index.rebuild_block.Lts as lts
-use Rattle.hash_block.proofs.rebuild_frame_index_block_hash.Reads as rebuild-frame-index-block-hash-reads
 
 mul-a : tie.Need-mul-a
 mul-a c = search needs

@@ -1,10 +1,7 @@
-use borrow.Author.Tests.{le-leb, lt-leb, le-ltb, lt-ltb}
-use native.Mathlib.Omega.{arith}
+use borrow.Author.Tests.{le-ltb, lt-ltb}
 use borrow.Author.Needs.{needs}
 use Rattle.frame_index.proofs.index.short_index.Statement.{statement}
 use Rattle.frame_index.proofs.index.short_index.Tie as tie
-use Rattle.frame_index.proofs.index.short_index.Reads as reads
-use Rattle.frame_index.proofs.index.short_index.Lts as lts
 
 mul-if1 : tie.Need-mul-if1
 mul-if1 c = search needs

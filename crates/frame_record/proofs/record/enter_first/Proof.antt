@@ -1,14 +1,8 @@
 use Rattle.frame_record.proofs.Entered.{first-hash}
 use mathlib.Core.Path.{refl}
-use native.Mathlib.Omega.{arith}
 use borrow.Author.Needs.{needs}
 use Rattle.frame_record.proofs.record.enter_first.Statement.{statement}
 use Rattle.frame_record.proofs.record.enter_first.Tie as tie
-use Rattle.frame_record.proofs.record.enter_first.Reads as reads
-use Rattle.frame_record.proofs.record.enter_first.Lts as lts
-use Rattle.frame_index.proofs.index.clear_block.Reads as clear-block-reads
-use Rattle.frame_index.proofs.index.name_in_block.Reads as name-in-block-reads
-use Rattle.hash_block.proofs.hash_page_id.Reads as hash-page-id-reads
 
 clear-block-requires : tie.Need-clear-block-requires
 clear-block-requires c κs = search needs

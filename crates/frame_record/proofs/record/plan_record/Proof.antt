@@ -4,14 +4,6 @@ use native.Mathlib.Omega.{arith}
 use borrow.Author.Needs.{needs}
 use Rattle.frame_record.proofs.record.plan_record.Statement.{statement}
 use Rattle.frame_record.proofs.record.plan_record.Tie as tie
-use Rattle.frame_record.proofs.record.plan_record.Reads as reads
-use Rattle.frame_record.proofs.record.plan_record.Lts as lts
-use Rattle.frame_index.proofs.index.cell_in_block.Reads as cell-in-block-reads
-use Rattle.frame_index.proofs.index.index_refusal.Reads as index-refusal-reads
-use Rattle.index_end.proofs.place.is_out_of_order.Reads as is-out-of-order-reads
-use Rattle.index_end.proofs.place.overflowed.Reads as overflowed-reads
-use Rattle.index_end.proofs.place.place_entry.Reads as place-entry-reads
-use Rattle.index_end.proofs.place.started_header.Reads as started-header-reads
 
 index-refusal-requires : tie.Need-index-refusal-requires
 index-refusal-requires c κs = search needs

@@ -1,14 +1,7 @@
 use Rattle.frame_record.proofs.Planned.{carry, first-fits, next-fits}
-use native.Mathlib.Omega.{arith}
 use borrow.Author.Needs.{needs}
 use Rattle.frame_record.proofs.record.record_frame.Statement.{statement}
 use Rattle.frame_record.proofs.record.record_frame.Tie as tie
-use Rattle.frame_record.proofs.record.record_frame.Reads as reads
-use Rattle.frame_record.proofs.record.record_frame.Lts as lts
-use Rattle.frame_record.proofs.record.enter_first.Reads as enter-first-reads
-use Rattle.frame_record.proofs.record.enter_next.Reads as enter-next-reads
-use Rattle.index_end.proofs.place.longer.Reads as longer-reads
-use Rattle.frame_record.proofs.record.plan_record.Reads as plan-record-reads
 
 plan-record-requires : tie.Need-plan-record-requires
 plan-record-requires c κs = search needs

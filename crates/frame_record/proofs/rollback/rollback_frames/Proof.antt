@@ -8,12 +8,6 @@ use native.Mathlib.Omega.{arith}
 use borrow.Author.Needs.{needs}
 use Rattle.frame_record.proofs.rollback.rollback_frames.Statement.{statement}
 use Rattle.frame_record.proofs.rollback.rollback_frames.Tie as tie
-use Rattle.frame_record.proofs.rollback.rollback_frames.Reads as reads
-use Rattle.frame_record.proofs.rollback.rollback_frames.Lts as lts
-use Rattle.frame_index.proofs.index.index_refusal.Reads as index-refusal-reads
-use Rattle.frame_index.proofs.index.rebuild_block.Reads as rebuild-block-reads
-use Rattle.index_end.proofs.kept.kept_entries.Reads as kept-entries-reads
-use Rattle.index_end.proofs.kept.shortened.Reads as shortened-reads
 
 index-refusal-requires : tie.Need-index-refusal-requires
 index-refusal-requires c κs = search needs

@@ -1,13 +1,9 @@
 use borrow.Author.Tests.{eq-eqb, ne-eqb, lt-ltb, le-ltb}
 use Rattle.header.specs.Locks.{try-acquire}
 use Rattle.header.proofs.Cells.{local-of-with, with-twice}
-use native.Mathlib.Omega.{arith}
 use borrow.Author.Needs.{needs}
 use Rattle.header.proofs.locks.acquire_lock.Statement.{statement}
 use Rattle.header.proofs.locks.acquire_lock.Tie as tie
-use Rattle.header.proofs.locks.acquire_lock.Reads as reads
-use Rattle.header.proofs.locks.acquire_lock.Lts as lts
-use Rattle.header.proofs.locks.with_owner.Reads as with-owner-reads
 
 returns : tie.Need-returns
 unfolding try-acquire

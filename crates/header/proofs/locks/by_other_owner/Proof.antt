@@ -1,9 +1,6 @@
-use native.Mathlib.Omega.{arith}
 use borrow.Author.Needs.{needs}
 use Rattle.header.proofs.locks.by_other_owner.Statement.{statement}
 use Rattle.header.proofs.locks.by_other_owner.Tie as tie
-use Rattle.header.proofs.locks.by_other_owner.Reads as reads
-use Rattle.header.proofs.locks.by_other_owner.Lts as lts
 
 enum-told : tie.Need-enum-told
 enum-told c = search needs

@@ -1,14 +1,9 @@
 use borrow.Author.Tests.{eq-eqb, ne-eqb}
 use Rattle.header.specs.Locks.{release}
 use Rattle.header.proofs.Cells.{local-of-with, with-twice}
-use native.Mathlib.Omega.{arith}
 use borrow.Author.Needs.{needs}
 use Rattle.header.proofs.locks.release_lock.Statement.{statement}
 use Rattle.header.proofs.locks.release_lock.Tie as tie
-use Rattle.header.proofs.locks.release_lock.Reads as reads
-use Rattle.header.proofs.locks.release_lock.Lts as lts
-use Rattle.header.proofs.locks.by_other_owner.Reads as by-other-owner-reads
-use Rattle.header.proofs.locks.with_owner.Reads as with-owner-reads
 
 returns : tie.Need-returns
 unfolding release

@@ -1,9 +1,6 @@
-use native.Mathlib.Omega.{arith}
 use borrow.Author.Needs.{needs}
 use Rattle.header.proofs.locks.with_owner.Statement.{statement}
 use Rattle.header.proofs.locks.with_owner.Tie as tie
-use Rattle.header.proofs.locks.with_owner.Reads as reads
-use Rattle.header.proofs.locks.with_owner.Lts as lts
 
 -- src/locks.rt:35:13
 enum-told : tie.Need-enum-told

@@ -1,11 +1,7 @@
 use Rattle.header.specs.Publish.{bump-checkpoint-seq}
-use native.Mathlib.Omega.{arith}
 use borrow.Author.Needs.{needs}
 use Rattle.header.proofs.publish.bump_checkpoint_seq.Statement.{statement}
 use Rattle.header.proofs.publish.bump_checkpoint_seq.Tie as tie
-use Rattle.header.proofs.publish.bump_checkpoint_seq.Reads as reads
-use Rattle.header.proofs.publish.bump_checkpoint_seq.Lts as lts
-use Rattle.std.proofs.num.wrapping_add_u32.Reads as wrapping-add-u32-reads
 
 wrapping-add-u32-requires : tie.Need-wrapping-add-u32-requires
 wrapping-add-u32-requires c κs = search needs

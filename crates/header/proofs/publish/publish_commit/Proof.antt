@@ -1,13 +1,8 @@
 use borrow.Author.Tests.{le-leb, lt-leb}
 use Rattle.header.specs.Publish.{publish-commit}
-use native.Mathlib.Omega.{arith}
 use borrow.Author.Needs.{needs}
 use Rattle.header.proofs.publish.publish_commit.Statement.{statement}
 use Rattle.header.proofs.publish.publish_commit.Tie as tie
-use Rattle.header.proofs.publish.publish_commit.Reads as reads
-use Rattle.header.proofs.publish.publish_commit.Lts as lts
-use Rattle.header.proofs.publish.larger.Reads as larger-reads
-use Rattle.std.proofs.num.wrapping_add_u64.Reads as wrapping-add-u64-reads
 
 larger-requires : tie.Need-larger-requires
 larger-requires c κs = search needs

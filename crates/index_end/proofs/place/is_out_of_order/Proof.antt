@@ -3,8 +3,6 @@ use native.Mathlib.Omega.{arith}
 use borrow.Author.Needs.{needs}
 use Rattle.index_end.proofs.place.is_out_of_order.Statement.{statement}
 use Rattle.index_end.proofs.place.is_out_of_order.Tie as tie
-use Rattle.index_end.proofs.place.is_out_of_order.Reads as reads
-use Rattle.index_end.proofs.place.is_out_of_order.Lts as lts
 
 returns : tie.Need-returns
 returns c = rw (le-ltb 0 (c .before .args .len) (omega arith))

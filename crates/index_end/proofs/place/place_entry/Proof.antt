@@ -1,11 +1,8 @@
 use Rattle.index_end.specs.Place.{placed}
 use borrow.Author.Tests.{le-leb, lt-leb}
-use native.Mathlib.Omega.{arith}
 use borrow.Author.Needs.{needs}
 use Rattle.index_end.proofs.place.place_entry.Statement.{statement}
 use Rattle.index_end.proofs.place.place_entry.Tie as tie
-use Rattle.index_end.proofs.place.place_entry.Reads as reads
-use Rattle.index_end.proofs.place.place_entry.Lts as lts
 
 returns : tie.Need-returns
 unfolding placed

@@ -1,11 +1,7 @@
 use Rattle.index_end.specs.Place.{started}
 use borrow.Author.Tests.{eq-eqb, ne-eqb}
-use native.Mathlib.Omega.{arith}
-use borrow.Author.Needs.{needs}
 use Rattle.index_end.proofs.place.started_header.Statement.{statement}
 use Rattle.index_end.proofs.place.started_header.Tie as tie
-use Rattle.index_end.proofs.place.started_header.Reads as reads
-use Rattle.index_end.proofs.place.started_header.Lts as lts
 
 returns : tie.Need-returns
 unfolding started
