@@ -7,10 +7,10 @@ use native.Mathlib.Numerals.{add-one}
 use native.Mathlib.Omega.{arith}
 use lib.ListN.{length, getD, take, set}
 use lib.Seq.{take-suc-set, length-take-le, getD-take}
-use Rattle.page_sort.specs.Sorted.{page-of}
+use Rattle.page_sort.specs.InnerSorted.{page-of}
 use Rattle.page_sort.proofs.Keys.{by-eqb, having-nil, having-same, having-other, having-append}
 use Rattle.frame_gather.specs.Named.{named}
-use Rattle.frame_gather.specs.Gathered.{down, head-of}
+use Rattle.frame_gather.specs.InnerGathered.{down, head-of}
 
 module _ (pages : List ℕ) where
   pub head-nil : (page : ℕ) → head-of pages page [] ≡ []

@@ -14,7 +14,7 @@ use Rattle.frame_index.specs.Index.{block-cells-of}
 use Rattle.frame_index.proofs.Blocks.{mid-cells, length-block}
 use Rattle.page_sort.proofs.Keys.{by-eqb}
 use Rattle.frame_gather.specs.Named.{has-cell, named}
-use Rattle.frame_gather.specs.Gathered.{known}
+use Rattle.frame_gather.specs.InnerGathered.{known}
 
 or-true : (t : Bool) → (t || true) ≡ true
 or-true true = refl

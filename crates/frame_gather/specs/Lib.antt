@@ -1,3 +1,3 @@
 -- The entries that the hash names, and how they are gathered.
 pub mod Named
-pub mod Gathered
+pub mod InnerGathered

@@ -7,7 +7,7 @@ ghost use Prim.Native.Nat.{ℕ, _+_, _*_, _/_, _<_, _≤_};
 ghost use lib.Dec.{eqb};
 ghost use lib.ListN.{length, getD, take};
 ghost use Rattle.frame_gather.specs.Named.{has-cell};
-ghost use Rattle.frame_gather.specs.Gathered.{known, down, head-of};
+ghost use Rattle.frame_gather.specs.InnerGathered.{known, down, head-of};
 
 // A cell as an index.
 fn wide(x: u16) -> usize

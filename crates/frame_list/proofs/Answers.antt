@@ -20,8 +20,8 @@ use Rattle.frame_list.specs.declared.List.{List as ListAnswer}
 use Rattle.frame_list.specs.declared.List.the-variants.{Pairs, Refused}
 use Rattle.page_choice.specs.Chosen.{in-bounds}
 use Rattle.frame_list.specs.Latest.{latest, iter-latest-frames}
-use Rattle.frame_list.specs.Result.{IsListed, IsRefused, Lists}
-use Rattle.frame_list.specs.Written.{Written, TooMany, Writes}
+use Rattle.frame_list.specs.InnerResult.{IsListed, IsRefused, Lists}
+use Rattle.frame_list.specs.InnerWritten.{Written, TooMany, Writes}
 
 -- What is written, by the entries that were chosen into the spare.
 module _ (entries spare : List ℕ) (count : ℕ) (fits : count ≤ length spare) (chosen : take count spare ≡ entries) where

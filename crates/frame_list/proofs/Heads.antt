@@ -4,9 +4,9 @@ use mathlib.Core.List.{List, [], _∷_, _++_}
 use Prim.Native.Nat.{ℕ, zero, suc, _^_, _<_, _≤_}
 use native.Mathlib.Omega.{arith}
 use lib.ListN.{getD}
-use Rattle.page_sort.specs.Sorted.{having, by-key, by-page, page-of}
+use Rattle.page_sort.specs.InnerSorted.{having, by-key, by-page, page-of}
 use Rattle.page_sort.proofs.Keys.{by-eqb, having-nil, having-same, having-other, by-key-none, by-key-next}
-use Rattle.frame_gather.specs.Gathered.{head-of}
+use Rattle.frame_gather.specs.InnerGathered.{head-of}
 use Rattle.frame_gather.proofs.Gathered.{head-nil, head-same, head-other}
 use Rattle.page_choice.specs.Chosen.{firsts-after, firsts}
 use Rattle.page_choice.proofs.Chosen.{firsts-nil, firsts-skip, firsts-take}

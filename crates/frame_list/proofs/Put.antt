@@ -8,9 +8,9 @@ use native.Mathlib.Omega.{arith}
 use lib.ListN.{getD}
 use borrow.Author.Tests.{eq-eqb, ne-eqb, lt-ltb, le-ltb}
 use Rattle.page_sort.proofs.Keys.{by-eqb}
-use Rattle.page_sort.specs.Sorted.{by-page}
+use Rattle.page_sort.specs.InnerSorted.{by-page}
 use Rattle.frame_gather.specs.Named.{named}
-use Rattle.frame_gather.specs.Gathered.{down, head-of}
+use Rattle.frame_gather.specs.InnerGathered.{down, head-of}
 use Rattle.frame_gather.proofs.Gathered.{head-nil, head-same, head-other}
 use Rattle.page_choice.specs.Chosen.{firsts}
 use Rattle.frame_list.specs.Latest.{put-entry, latest}

@@ -1,4 +1,4 @@
 -- iter_latest_frames: what it lists, and what it gives.
 pub mod Latest
-pub mod Result
-pub mod Written
+pub mod InnerResult
+pub mod InnerWritten

@@ -11,8 +11,8 @@ ghost use Rattle.wal_types.specs.Memory.{Memory, Process};
 ghost use Rattle.page_choice.specs.Chosen.{in-bounds};
 ghost use Rattle.frame_list.specs.Latest.{latest, iter-latest-frames};
 ghost use Rattle.frame_index.specs.Index.{index-in};
-ghost use Rattle.frame_list.specs.Result.{Lists};
-ghost use Rattle.frame_list.specs.Written.{Writes};
+ghost use Rattle.frame_list.specs.InnerResult.{Lists};
+ghost use Rattle.frame_list.specs.InnerWritten.{Writes};
 
 pub enum List {
     // As many pairs, in the first output cells.

@@ -20,7 +20,7 @@ use Rattle.frame_record.specs.declared.record.Plan.the-variants.{First, 
 use Rattle.frame_index.specs.Index.{index-refusal, block-of, place-of, block-cells-of, index-in, HasRoom}
 use Rattle.index_end.specs.Place.{started, placed, out-of-order}
 use Rattle.frame_record.specs.Record.{record-frame}
-use Rattle.frame_record.specs.Plan.{carried-out, plan-fits, PlannedRecord}
+use Rattle.frame_record.specs.InnerPlan.{carried-out, plan-fits, PlannedRecord}
 use Rattle.frame_index.proofs.Settings.{passed-settings, passed-long}
 use Rattle.frame_record.proofs.Placed.{started-blocks, place-room}
 use Rattle.frame_record.proofs.Recorded.{record-refused, record-dropped, record-out-of-order, record-full, record-first, record-next}

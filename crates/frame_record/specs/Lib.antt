@@ -1,4 +1,4 @@
 -- The calls that change the frame index.
 pub mod Record
-pub mod Plan
+pub mod InnerPlan
 pub mod Rollback

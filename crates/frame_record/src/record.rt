@@ -10,7 +10,7 @@ ghost use lib.ListN.{length, set};
 ghost use Rattle.hash_block.specs.Block.{cleared, inserted};
 ghost use Rattle.frame_index.specs.Index.{block-cells-of, with-block, HasRoom, IndexCall};
 ghost use Rattle.frame_record.specs.Record.{record-frame, record-answer, record-header};
-ghost use Rattle.frame_record.specs.Plan.{PlannedRecord};
+ghost use Rattle.frame_record.specs.InnerPlan.{PlannedRecord};
 
 // Stored and Dropped have the header as the call leaves it. Refused changes nothing.
 pub enum Record {

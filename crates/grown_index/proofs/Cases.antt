@@ -1,9 +1,9 @@
--- Document 01's table of proved cases: lookups and lists after three records on fresh memory. Assumes nothing.
+-- Document 01's table of proved cases. Assumes nothing.
 use mathlib.Core.Path.{_≡_, refl, sym, _∙_, ap, subst}
 use mathlib.Core.Bool.{false}
 use mathlib.Core.List.{List, [], _∷_, _++_, List·Memᴰ, List·Memᴰ·head, List·Memᴰ·tail, List·Memᴰ·cases-cons, List·Memᴰ·not-nil}
 use mathlib.Core.Logic.{inl, inr}
-use Prim.Native.Nat.{ℕ, _≤_}
+use Prim.Native.Nat.{ℕ, _≤_, _<_}
 use native.Mathlib.Decide.{ℕ-discrete}
 use native.Mathlib.Omega.{arith}
 use lib.ListN.{length, getD, length-map}
@@ -14,35 +14,25 @@ use Rattle.wal_types.specs.Memory.{Memory, Process}
 use Rattle.wal_types.specs.Fresh.{Fresh, fresh-header}
 use Rattle.wal_types.specs.Store.{frame-index-len, header-with}
 use Rattle.wal_types.specs.Call.{Pair, pair, Answer, stored, frame-found, none, listed, Done, done, after}
+use Rattle.hash_block.specs.Home.{home}
 use Rattle.frame_index.specs.declared.find.Watermark.the-variants.{UpTo, NoWatermark}
 use Rattle.frame_index.specs.declared.find.Lookup.the-variants.{Frame, NoFrame}
 use Rattle.index_end.specs.declared.place.Place.the-variants.{AtEnd}
 use Rattle.index_end.specs.Place.{started, placed, out-of-order}
-use Rattle.frame_record.specs.Record.{record-frame}
 use Rattle.frame_index.specs.Find.{lookup-answer, find-frame}
 use Rattle.frame_list.specs.Latest.{listed-entries, pairs-of, iter-latest-frames}
 use Rattle.grown_index.specs.Entries.{entries, greatest}
 use Rattle.grown_index.specs.Grown.{LongMemory, Grown}
 use Rattle.grown_index.specs.Listed.{PagesRise, IsListOf}
+use Rattle.grown_index.specs.Cases.{recorded, three-records, then-find, then-list, Cases, ProvedCases}
 use Rattle.grown_index.proofs.Starts.{fresh-grown}
 use Rattle.grown_index.proofs.Records.{with-entry, stores, entry-grown, entry-entries}
 use Rattle.grown_index.proofs.Answers.{grown-accepted, find-done, find-below, find-watermark, list-done}
 use Rattle.grown_index.proofs.Listed.{list-gives}
 use Rattle.grown_index.proofs.Unique.{listed-once}
 
--- R page frame, as the program makes it: capacity 4,096, B 1, growth no
-abbrev pub recorded : ℕ → ℕ → Memory → Process → Done
-recorded page frame m p = after (record-frame 4096 1 page frame false) m p
-
--- R 7 1, R 8199 2, R 7 3
-abbrev pub three-records : Memory → Process → Memory
-three-records m p = recorded 7 3 (recorded 8199 2 (recorded 7 1 m p .memory) p .memory) p .memory
-
-abbrev header-of : ℕ → Header
-header-of n = header-with frame-index-len n (fresh-header 1)
-
 -- the pairs that they leave
-abbrev pub three : List Pair
+abbrev three : List Pair
 three = pair 7 1 ∷ (pair 8199 2 ∷ (pair 7 3 ∷ []))
 
 -- another page has none of them
@@ -102,6 +92,10 @@ is-3-2 =
 
 -- one block in use, nothing published; page, frame and hash cells for a block
 module _ (m : Memory) (n : ℕ) (fresh : Fresh 1 1 n m) (long : LongMemory 1 m) (p : Process) where
+  -- the header with so many entries
+  abbrev header-of : ℕ → Header
+  header-of len = header-with frame-index-len len (fresh-header 1 (fresh .c1) (fresh .c2))
+
   abbrev m1 : Memory
   m1 = with-entry 7 1 m (header-of 0)
 
@@ -119,7 +113,7 @@ module _ (m : Memory) (n : ℕ) (fresh : Fresh 1 1 n m) (long : LongMemory 1 m) 
   unfolding placed started
   end0 = rw (fresh .header-fresh)
 
-  pub first-record : recorded 7 1 m p ≡ done stored m1 p
+  first-record : recorded 7 1 m p ≡ done stored m1 p
   first-record = stores 4096 1 7 1 false m p g0 (header-of 0) end0 (grown-accepted 4096 1 m g0 refl refl) refl
 
   g1 : Grown 4096 1 m1
@@ -138,7 +132,7 @@ module _ (m : Memory) (n : ℕ) (fresh : Fresh 1 1 n m) (long : LongMemory 1 m) 
   order1 : out-of-order 2 1 (m1 .frames) ≡ false
   order1 = let l = long .frames-long in rw (getD-set-same (m .frames) 0 1 0 (omega arith))
 
-  pub second-record : recorded 8199 2 m1 p ≡ done stored m2 p
+  second-record : recorded 8199 2 m1 p ≡ done stored m2 p
   second-record = stores 4096 1 8199 2 false m1 p g1 (header-of 1) end1 (grown-accepted 4096 1 m1 g1 refl refl) order1
 
   g2 : Grown 4096 1 m2
@@ -157,7 +151,7 @@ module _ (m : Memory) (n : ℕ) (fresh : Fresh 1 1 n m) (long : LongMemory 1 m) 
   order2 : out-of-order 3 2 (m2 .frames) ≡ false
   order2 = let l = g1 .long .frames-long in rw (getD-set-same (m1 .frames) 1 2 0 (omega arith))
 
-  pub third-record : recorded 7 3 m2 p ≡ done stored m3 p
+  third-record : recorded 7 3 m2 p ≡ done stored m3 p
   third-record = stores 4096 1 7 3 false m2 p g2 (header-of 2) end2 (grown-accepted 4096 1 m2 g2 refl refl) order2
 
   g3 : Grown 4096 1 m3
@@ -174,51 +168,48 @@ module _ (m : Memory) (n : ℕ) (fresh : Fresh 1 1 n m) (long : LongMemory 1 m) 
       ∙ (ap (λ (d : Done). recorded 7 3 (d .memory) p .memory) second-record ∙ ap (λ (d : Done). d .memory) third-record)
 
   -- a lookup after the three records, by their pairs
-  looks : (page low high : ℕ) (a : Answer) → lookup-answer (greatest three page low high) ≡ a → after (find-frame 4096 1 page low high NoWatermark) (three-records m p) p .answer ≡ a
+  looks : (page low high : ℕ) (a : Answer) → lookup-answer (greatest three page low high) ≡ a → then-find m p page low high NoWatermark ≡ a
   looks page low high a e =
       ap (λ (x : Memory). after (find-frame 4096 1 page low high NoWatermark) x p .answer) after-three
       ∙ (ap (λ (d : Done). d .answer) (find-done 4096 1 m3 g3 p page low high (grown-accepted 4096 1 m3 g3 refl refl)) ∙ (ap (λ (l : List Pair). lookup-answer (greatest l page low high)) entries3 ∙ e))
 
-  -- PAGE 7 IN 2..2: none
-  pub page-7-in-2-2 : after (find-frame 4096 1 7 2 2 NoWatermark) (three-records m p) p .answer ≡ none
-  unfolding greatest
-  page-7-in-2-2 = looks 7 2 2 none refl
+  -- with a watermark of at least min, and with one below it
+  looks-up-to : (low high w : ℕ) (a : Answer) → low ≤ w → lookup-answer (greatest three 7 0 w) ≡ a → then-find m p 7 low high (UpTo w) ≡ a
+  looks-up-to low high w a l e =
+      ap (λ (x : Memory). after (find-frame 4096 1 7 low high (UpTo w)) x p .answer) after-three
+      ∙ (ap (λ (d : Done). d .answer) (find-watermark 4096 1 m3 g3 p 7 low high w (grown-accepted 4096 1 m3 g3 refl refl) l) ∙ (ap (λ (es : List Pair). lookup-answer (greatest es 7 0 w)) entries3 ∙ e))
 
-  -- PAGE 7 IN 1..3: 3
-  pub page-7-in-1-3 : after (find-frame 4096 1 7 1 3 NoWatermark) (three-records m p) p .answer ≡ frame-found 3
-  unfolding greatest
-  page-7-in-1-3 = looks 7 1 3 (frame-found 3) refl
-
-  -- MIN 2 WITH WATERMARK 2: 1, whatever max is
-  pub page-7-watermark-2 : (high : ℕ) → after (find-frame 4096 1 7 2 high (UpTo 2)) (three-records m p) p .answer ≡ frame-found 1
-  unfolding greatest
-  page-7-watermark-2 high =
-      ap (λ (x : Memory). after (find-frame 4096 1 7 2 high (UpTo 2)) x p .answer) after-three
-      ∙ (ap (λ (d : Done). d .answer) (find-watermark 4096 1 m3 g3 p 7 2 high 2 (grown-accepted 4096 1 m3 g3 refl refl) (omega arith)) ∙ ap (λ (l : List Pair). lookup-answer (greatest l 7 0 2)) entries3)
-
-  -- MIN 2 WITH WATERMARK 1: none
-  pub page-7-watermark-1 : (high : ℕ) → after (find-frame 4096 1 7 2 high (UpTo 1)) (three-records m p) p .answer ≡ none
-  page-7-watermark-1 high =
-      ap (λ (x : Memory). after (find-frame 4096 1 7 2 high (UpTo 1)) x p .answer) after-three
-      ∙ ap (λ (d : Done). d .answer) (find-below 4096 1 m3 g3 p 7 2 high 1 (grown-accepted 4096 1 m3 g3 refl refl) (omega arith))
+  looks-below : (low high w : ℕ) → w < low → then-find m p 7 low high (UpTo w) ≡ none
+  looks-below low high w l =
+      ap (λ (x : Memory). after (find-frame 4096 1 7 low high (UpTo w)) x p .answer) after-three
+      ∙ ap (λ (d : Done). d .answer) (find-below 4096 1 m3 g3 p 7 low high w (grown-accepted 4096 1 m3 g3 refl refl) l)
 
   -- a list after the three records, by their pairs, with output cells enough
-  lists : (low high : ℕ) (l : List Pair) → IsListOf three low high l → (room-pages room-frames : ℕ) → length l ≤ room-pages → length l ≤ room-frames
-      → after (iter-latest-frames 4096 1 low high room-pages room-frames) (three-records m p) p .answer ≡ listed l
+  lists : (low high : ℕ) (l : List Pair) → IsListOf three low high l → (room-pages room-frames : ℕ) → length l ≤ room-pages → length l ≤ room-frames → then-list m p low high room-pages room-frames ≡ listed l
   lists low high l is rp rf i j =
       let e : pairs-of m3 (listed-entries low high m3) ≡ l = listed-once three low high _ l (subst (λ (es : List Pair). IsListOf es low high (pairs-of m3 (listed-entries low high m3))) entries3 (list-gives 4096 1 m3 g3 low high)) is in
       let c : length (listed-entries low high m3) ≡ length l = sym (length-map (listed-entries low high m3) (λ n. pair (getD (m3 .pages) n 0) (getD (m3 .frames) n 0))) ∙ ap length e in
       ap (λ (x : Memory). after (iter-latest-frames 4096 1 low high rp rf) x p .answer) after-three
       ∙ (ap (λ (d : Done). d .answer) (list-done 4096 1 low high rp rf m3 p (grown-accepted 4096 1 m3 g3 refl refl) (omega arith) (omega arith)) ∙ ap listed e)
 
-  -- LIST 2..2: (8199, 2)
-  pub list-2-2 : (room-pages room-frames : ℕ) → 1 ≤ room-pages → 1 ≤ room-frames → after (iter-latest-frames 4096 1 2 2 room-pages room-frames) (three-records m p) p .answer ≡ listed (pair 8199 2 ∷ [])
-  list-2-2 = lists 2 2 (pair 8199 2 ∷ []) is-2-2
+  cases : Cases m p
+  unfolding home greatest
+  cases =
+      record {
+        home-1 = refl;
+        home-22 = refl;
+        home-8192 = refl;
+        home-8193 = refl;
+        home-last = refl;
+        page-7-in-2-2 = looks 7 2 2 none refl;
+        page-7-in-1-3 = looks 7 1 3 (frame-found 3) refl;
+        page-7-watermark-2 = λ high. looks-up-to 2 high 2 (frame-found 1) (omega arith) refl;
+        page-7-watermark-1 = λ high. looks-below 2 high 1 (omega arith);
+        list-2-2 = lists 2 2 (pair 8199 2 ∷ []) is-2-2;
+        list-1-3 = lists 1 3 (pair 7 3 ∷ (pair 8199 2 ∷ [])) is-1-3;
+        list-3-2 = λ rp rf. lists 3 2 [] is-3-2 rp rf (omega arith) (omega arith);
+      }
 
-  -- LIST 1..3: (7, 3), (8199, 2)
-  pub list-1-3 : (room-pages room-frames : ℕ) → 2 ≤ room-pages → 2 ≤ room-frames → after (iter-latest-frames 4096 1 1 3 room-pages room-frames) (three-records m p) p .answer ≡ listed (pair 7 3 ∷ (pair 8199 2 ∷ []))
-  list-1-3 = lists 1 3 (pair 7 3 ∷ (pair 8199 2 ∷ [])) is-1-3
-
-  -- LIST 3..2: empty
-  pub list-3-2 : (room-pages room-frames : ℕ) → after (iter-latest-frames 4096 1 3 2 room-pages room-frames) (three-records m p) p .answer ≡ listed []
-  list-3-2 rp rf = lists 3 2 [] is-3-2 rp rf (omega arith) (omega arith)
+pub proved-cases : ProvedCases
+unfolding ProvedCases
+proved-cases = cases

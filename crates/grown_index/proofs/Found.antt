@@ -11,7 +11,7 @@ use Rattle.wal_types.specs.Memory.{Memory}
 use Rattle.wal_types.specs.Call.{none, Pair, pair}
 use Rattle.hash_block.specs.declared.Probe.{Probe}
 use Rattle.hash_block.specs.Block.{probe, looked}
-use Rattle.hash_block.specs.Latest.{latest-below}
+use Rattle.hash_block.specs.InnerLatest.{latest-below}
 use Rattle.hash_block.proofs.Latest.{latest-here, latest-other}
 use Rattle.hash_block.proofs.Lookup.{lookup}
 use Rattle.hash_block.proofs.Looked.{looked-le}

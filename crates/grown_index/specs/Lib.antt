@@ -3,3 +3,4 @@ pub mod Entries
 pub mod Grown
 pub mod Calls
 pub mod Listed
+pub mod Cases

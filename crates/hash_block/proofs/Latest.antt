@@ -10,7 +10,7 @@ use lib.ListN.{getD}
 use borrow.Author.Tests.{eqb-true, eqb-false, eq-eqb, ne-eqb}
 use Rattle.hash_block.specs.declared.Probe.{Probe}
 use Rattle.hash_block.specs.declared.Probe.the-variants.{At, Nothing}
-use Rattle.hash_block.specs.Latest.{latest-below}
+use Rattle.hash_block.specs.InnerLatest.{latest-below}
 use Rattle.hash_block.proofs.Empty.{by-test}
 
 -- a place with the page is the latest below the next

@@ -1,6 +1,5 @@
 -- Laws of the home of a page, of a search's turns, of a block built by insertion, and of the lookup in it.
 pub mod Home
-pub mod Cases
 pub mod Turns
 pub mod Empty
 pub mod Probed

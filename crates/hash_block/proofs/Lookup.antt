@@ -15,7 +15,7 @@ use Rattle.hash_block.specs.declared.Probe.{Probe}
 use Rattle.hash_block.specs.declared.Probe.the-variants.{At, Nothing}
 use Rattle.hash_block.specs.Home.{home, cell-at}
 use Rattle.hash_block.specs.Block.{cleared, built, probe-from, probe}
-use Rattle.hash_block.specs.Latest.{latest-below}
+use Rattle.hash_block.specs.InnerLatest.{latest-below}
 use Rattle.hash_block.proofs.Home.{cell-at-home, cell-at-next, cell-at-once}
 use Rattle.hash_block.proofs.Latest.{latest-here, latest-other}
 use Rattle.hash_block.proofs.Empty.{by-test, First, on-insert, set-cell}

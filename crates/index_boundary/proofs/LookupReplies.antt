@@ -9,7 +9,7 @@ use Rattle.frame_index.specs.declared.find.Found.{Found}
 use Rattle.frame_index.specs.declared.find.Found.the-variants.{Frame, NoFrame, Refused as FindRefused}
 use Rattle.frame_list.specs.declared.List.{List as ListAnswer}
 use Rattle.frame_list.specs.declared.List.the-variants.{Pairs, Refused as ListRefused}
-use Rattle.frame_list.specs.Result.{Lists}
+use Rattle.frame_list.specs.InnerResult.{Lists}
 use Rattle.frame_index.specs.Index.{IndexCall, index-in}
 use Rattle.frame_index.specs.Find.{found-answer}
 use Rattle.index_replies.specs.declared.lookup_reply.FindReply.{FindReply}

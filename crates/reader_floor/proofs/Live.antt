@@ -35,7 +35,7 @@ pub record SameFrom (i : ℕ) (f o f₀ o₀ : List ℕ) : Type 0 where
 
 -- some memory and some process, to read a list off a statement on all of them
 blank : Memory
-blank = record { header = fresh-header 0; pages = []; frames = []; hash = []; bitmap = []; reader-frames = []; reader-owners = [] }
+blank = record { header = fresh-header 0 0 0; pages = []; frames = []; hash = []; bitmap = []; reader-frames = []; reader-owners = [] }
 
 nobody : Process
 nobody = record { local-readers = []; local-writer = 0; local-checkpoint = 0; registry = [] }

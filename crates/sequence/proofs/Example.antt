@@ -74,6 +74,8 @@ fresh =
     record {
       memory-fresh =
           record {
+            c1 = 0;
+            c2 = 0;
             header-fresh = refl;
             hash-empty = λ i l. getD-replicate {A = ℕ} 8192 i 0 0 (omega arith);
             bits-free = both (λ i. slot-bit (3 ∷ []) i ≡ 1) refl refl;

@@ -1,4 +1,4 @@
--- Demand 3: its proof, and a worked sequence.
+-- Demand 3: its proof; the order of refusals; and a worked sequence.
 pub mod SlotsAside
 pub mod SlotsCells
 pub mod SlotsStep
@@ -11,5 +11,6 @@ pub mod IndexAnswers
 pub mod ReadersFloor
 pub mod ReadersHold
 pub mod Demand3
+pub mod Order
 pub mod Trace
 pub mod Example

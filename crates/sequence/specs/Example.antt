@@ -26,7 +26,7 @@ zeros n = replicate n 0
 abbrev pub fresh-memory : Memory
 fresh-memory =
     record {
-      header = fresh-header 1;
+      header = fresh-header 1 0 0;
       pages = zeros 4096;
       frames = zeros 4096;
       hash = zeros 8192;

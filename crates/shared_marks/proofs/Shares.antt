@@ -99,7 +99,7 @@ not-found (SlotAt i) e = let z : _≡_ {A = Bool} true false = e in let y : _≡
 not-found NoSlot e = refl
 
 abbrev some-memory : Memory
-some-memory = record { header = fresh-header 0; pages = []; frames = []; hash = []; bitmap = []; reader-frames = []; reader-owners = [] }
+some-memory = record { header = fresh-header 0 0 0; pages = []; frames = []; hash = []; bitmap = []; reader-frames = []; reader-owners = [] }
 
 abbrev some-process : Process
 some-process = record { local-readers = []; local-writer = 0; local-checkpoint = 0; registry = [] }

@@ -1,4 +1,4 @@
--- Fresh memory (document 01: "Fresh: .."). Page and frame cells, and whatever lies past the cells that a call may touch, are arbitrary. Assumes nothing.
+-- Fresh memory (document 01: "Fresh: .."). Page and frame cells, the header's checksums, and whatever lies past the cells that a call may touch, are arbitrary. Assumes nothing.
 use mathlib.Core.Path.{_≡_}
 use Prim.Native.Nat.{ℕ, _<_}
 use lib.ListN.{getD}
@@ -6,9 +6,9 @@ use Rattle.wal_types.specs.declared.Header.{Header}
 use Rattle.wal_types.specs.Settings.{cells-for, unused}
 use Rattle.wal_types.specs.Memory.{Memory, Process, slot-bit, no-mark}
 
--- length, flag, counters and lock owners 0; the starting blocks are in use
-abbrev pub fresh-header : ℕ → Header
-fresh-header start =
+-- length, flag, counters and lock owners 0; the starting blocks are in use; the checksums are as given
+abbrev pub fresh-header : ℕ → ℕ → ℕ → Header
+fresh-header start c1 c2 =
     record {
       «frame_index_blocks» = start;
       «frame_index_len» = 0;
@@ -19,15 +19,18 @@ fresh-header start =
       «visibility_generation» = 0;
       «checkpoint_seq» = 0;
       «checkpoint_epoch» = 0;
-      «checksum_1» = 0;
-      «checksum_2» = 0;
+      «checksum_1» = c1;
+      «checksum_2» = c2;
       «writer_owner» = 0;
       «checkpoint_owner» = 0;
     }
 
 -- Shared memory for B blocks and n slots, with the starting blocks in use, before the first call.
 pub record Fresh (b start n : ℕ) (m : Memory) : Type 0 where
-  pub header-fresh : m .header ≡ fresh-header start
+  -- what the checksums happen to be
+  pub c1 : ℕ
+  pub c2 : ℕ
+  pub header-fresh : m .header ≡ fresh-header start c1 c2
   pub hash-empty : (i : ℕ) → i < cells-for b → getD (m .hash) i 0 ≡ 0
   pub bits-free : (i : ℕ) → i < n → slot-bit (m .bitmap) i ≡ 1
   pub frames-unused : (i : ℕ) → i < n → getD (m .reader-frames) i unused ≡ unused

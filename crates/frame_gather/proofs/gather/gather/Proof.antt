@@ -1,5 +1,5 @@
 use Rattle.frame_gather.proofs.Gathered.{gathered-all}
-use Rattle.frame_gather.specs.Gathered.{down, head-of}
+use Rattle.frame_gather.specs.InnerGathered.{down, head-of}
 use lib.ListN.{length, take}
 use Prim.Native.Nat.{ℕ, _+_, _≤_}
 use mathlib.Core.List.{_++_}

@@ -1,6 +1,6 @@
 use Rattle.frame_gather.proofs.Marks.{length-part, named-by-mark}
 use Rattle.frame_gather.proofs.Gathered.{Gathers, gathers-all, gathers-unnamed, gathers-skip, gathers-append, gathers-end}
-use Rattle.frame_gather.specs.Gathered.{down}
+use Rattle.frame_gather.specs.InnerGathered.{down}
 use borrow.Author.Tests.{eq-eqb, ne-eqb, not-false}
 use lib.ListN.{length, take, getD-replicate}
 use Prim.Native.Nat.{_+_, _-_, _≤_}

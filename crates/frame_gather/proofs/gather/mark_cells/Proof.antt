@@ -1,5 +1,5 @@
 use Rattle.frame_gather.proofs.Marks.{known-none, known-all, known-empty}
-use Rattle.frame_gather.specs.Gathered.{known}
+use Rattle.frame_gather.specs.InnerGathered.{known}
 use borrow.Author.Tests.{not-false}
 use lib.ListN.{length}
 use Prim.Native.Nat.{ℕ, _-_, _%_, _≤_, _<_}

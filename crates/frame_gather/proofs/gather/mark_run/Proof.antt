@@ -1,6 +1,6 @@
 use native.Mathlib.Nat.{add-zero}
 use Rattle.frame_gather.proofs.Marks.{known-other, known-mark}
-use Rattle.frame_gather.specs.Gathered.{known}
+use Rattle.frame_gather.specs.InnerGathered.{known}
 use lib.ListN.{length, length-set}
 use Prim.Native.Nat.{ℕ, _+_, _-_, _≤_, _<_}
 use mathlib.Core.Path.{_≡_, _∙_}

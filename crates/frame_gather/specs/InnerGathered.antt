@@ -4,7 +4,7 @@ use mathlib.Core.List.{List, [], _∷_}
 use Prim.Native.Nat.{ℕ, zero, suc}
 use lib.Dec.{eqb}
 use lib.ListN.{getD, take, drop}
-use Rattle.page_sort.specs.Sorted.{having, page-of}
+use Rattle.page_sort.specs.InnerSorted.{having, page-of}
 use Rattle.frame_gather.specs.Named.{has-cell, named}
 
 -- the value has a mark, or one of the cells from the i-th on has it
