@@ -72,11 +72,15 @@ fn script(sides: Sides, words: &[&str]) -> ExitCode {
     };
     let mut out = BufWriter::new(std::io::stdout());
     let mut session = Session::new(sides);
+    let both = sides.port.is_some() && sides.rust.is_some();
     for (number, text) in text.lines().enumerate() {
-        let written = match session.step(&Line::parse(text)) {
-            Ok(Reply::Silent) => Ok(()),
-            Ok(reply) => writeln!(out, "{reply}"),
-            Err(difference) => {
+        let line = Line::parse(text);
+        let rust_did = if both { session.rust_on_refused(&line) } else { None };
+        let written = match (session.step(&line), rust_did) {
+            (Ok(Reply::Silent), _) => Ok(()),
+            (Ok(reply @ Reply::Answer(_)), Some(did)) => writeln!(out, "{reply} · {did}"),
+            (Ok(reply), _) => writeln!(out, "{reply}"),
+            (Err(difference), _) => {
                 let _ = write!(out, "line {}: {difference}", number + 1);
                 let _ = out.flush();
                 return ExitCode::from(1);
