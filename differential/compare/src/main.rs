@@ -146,13 +146,14 @@ fn all_sequences(sides: Sides, words: &[&str]) -> ExitCode {
         }
         Err(found) => return told(&found),
     }
-    let mut total = 0;
+    let (mut total, mut calls) = (0, 0);
     let run = exhaustive::run(sides, length, |tally| {
         println!("exhaustive: {}, {} sequences", tally.opening, tally.sequences);
         total += tally.sequences;
+        calls += tally.calls;
     });
     match run {
-        Ok(()) if total == 0 => nothing("no sequence has a call"),
+        Ok(()) if calls == 0 => nothing("no sequence has a call"),
         Ok(()) => {
             println!("exhaustive: {total} sequences of up to {length} calls, no difference");
             ExitCode::SUCCESS
