@@ -24,6 +24,8 @@ struct Opening {
 pub struct Tally {
     pub opening: &'static str,
     pub sequences: u64,
+    /// Those that both sides have, after the opening's.
+    pub calls: u64,
 }
 
 /// Makes every sequence of up to `length` calls from every opening, and compares every cell after each call.
@@ -31,11 +33,13 @@ pub fn run(sides: Sides, length: usize, mut told: impl FnMut(&Tally)) -> Result<
     for opening in openings() {
         let mut session = Session::new(sides);
         open(&mut session, &opening, sides)?;
+        let opened = session.calls;
         let length = length.saturating_sub(opening.shorter);
         let mut tree = Tree { sides, session, opening: &opening, calls: calls(opening.frame), sequences: 0 };
         let mut kept = vec![Memory::default(); length];
         tree.grow(&mut kept, &mut Vec::new())?;
-        told(&Tally { opening: opening.name, sequences: tree.sequences });
+        let calls = tree.session.calls - opened;
+        told(&Tally { opening: opening.name, sequences: tree.sequences, calls });
     }
     Ok(())
 }

@@ -3,7 +3,8 @@
 //! - `memory`: the cells that a call may read or write, and their dump.
 //! - `script`: the lines of a call script.
 //! - `sides`: what the port and the Rust each have to offer.
-//! - `refusals`: document 01's table of refusals.
+//! - `refusals`: document 01's table of refusals, and what the Rust must do with a refused call.
+//! - `rust_did`: what the Rust did with one, in words.
 //! - `demand3`: what a hold is owed, checked at run time.
 //! - `session`: one script on one side or on both, with every cell compared after each call.
 //! - `random`: scripts of its own making, and the shortest one that shows a difference; cases of one call each.
@@ -15,6 +16,7 @@ pub mod exhaustive;
 pub mod memory;
 pub mod random;
 pub mod refusals;
+pub mod rust_did;
 pub mod script;
 pub mod session;
 pub mod sides;

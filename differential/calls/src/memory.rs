@@ -392,40 +392,82 @@ pub fn copy(view: &dyn View) -> Memory {
     }
 }
 
-/// The cells in which two memories of one shape differ, with both values.
-pub fn differing_cells(port: &Memory, rust: &Memory) -> Vec<String> {
-    let mut found = Differing(Vec::new());
-    for (word, cell) in HEADER_CELLS {
-        found.cell(word, &port.header.get(cell), &rust.header.get(cell));
-    }
-    found.cells("page", &port.pages, &rust.pages);
-    found.cells("frame", &port.frames, &rust.frames);
-    found.cells("hash", &port.hash, &rust.hash);
-    found.cells("bitmap", &port.slots.bitmap, &rust.slots.bitmap);
-    found.cells("sframe", &port.slots.frames, &rust.slots.frames);
-    found.cells("sowner", &port.slots.owners, &rust.slots.owners);
-    for (p, (port, rust)) in port.processes.iter().zip(&rust.processes).enumerate() {
-        found.cell(&format!("process {p} lwriter"), &port.local_writer, &rust.local_writer);
-        found.cell(&format!("process {p} lckpt"), &port.local_checkpoint, &rust.local_checkpoint);
-        found.cells(&format!("process {p} lowner"), &port.local_owners, &rust.local_owners);
-        let shown = |own: &Own| own.registry.iter().map(shown_record).collect::<Vec<_>>();
-        found.cells(&format!("process {p} registry"), &shown(port), &shown(rust));
-    }
-    found.0
+/// A cell in which two memories of one shape differ.
+#[derive(Debug, PartialEq, Eq)]
+pub struct Differing {
+    /// Whose, if the cell is a process's own.
+    process: Option<usize>,
+    name: &'static str,
+    index: Option<usize>,
+    /// Its value in the one memory and in the other.
+    values: [String; 2],
 }
 
-struct Differing(Vec<String>);
-
 impl Differing {
-    fn cell<T: PartialEq + Display>(&mut self, name: &str, port: &T, rust: &T) {
-        if port != rust {
-            self.0.push(format!("{name}: port {port}, Rust {rust}"));
+    /// As a difference between the port, the one, and the Rust, the other.
+    pub fn between_sides(&self) -> String {
+        let process = self.process.map_or(String::new(), |process| format!("process {process} "));
+        let index = self.index.map_or(String::new(), |index| format!(" {index}"));
+        let [port, rust] = &self.values;
+        format!("{process}{}{index}: port {port}, Rust {rust}", self.name)
+    }
+
+    /// As a change from the one to the other.
+    pub fn as_change(&self) -> String {
+        let index = self.index.map_or(String::new(), |index| format!("[{index}]"));
+        let [old, new] = &self.values;
+        format!("{}{index} {old} -> {new}", self.name)
+    }
+}
+
+/// The cells in which two memories of one shape differ.
+pub fn differing_cells(one: &Memory, other: &Memory) -> Vec<Differing> {
+    let mut found = Search { process: None, found: Vec::new() };
+    for (name, cell) in HEADER_CELLS {
+        found.cell(name, &one.header.get(cell), &other.header.get(cell));
+    }
+    found.cells("page", &one.pages, &other.pages);
+    found.cells("frame", &one.frames, &other.frames);
+    found.cells("hash", &one.hash, &other.hash);
+    found.cells("bitmap", &one.slots.bitmap, &other.slots.bitmap);
+    found.cells("sframe", &one.slots.frames, &other.slots.frames);
+    found.cells("sowner", &one.slots.owners, &other.slots.owners);
+    for (process, (one, other)) in one.processes.iter().zip(&other.processes).enumerate() {
+        found.process = Some(process);
+        found.cell("lwriter", &one.local_writer, &other.local_writer);
+        found.cell("lckpt", &one.local_checkpoint, &other.local_checkpoint);
+        found.cells("lowner", &one.local_owners, &other.local_owners);
+        // The Rust's registry may have more records.
+        let records = one.registry.len().max(other.registry.len());
+        let shown = |own: &Own| {
+            let record = |i| shown_record(own.registry.get(i).unwrap_or(&Record::default()));
+            (0..records).map(record).collect::<Vec<_>>()
+        };
+        found.cells("registry", &shown(one), &shown(other));
+    }
+    found.found
+}
+
+struct Search {
+    process: Option<usize>,
+    found: Vec<Differing>,
+}
+
+impl Search {
+    fn cell<T: PartialEq + Display>(&mut self, name: &'static str, one: &T, other: &T) {
+        self.compare(name, None, one, other);
+    }
+
+    fn cells<T: PartialEq + Display>(&mut self, name: &'static str, one: &[T], other: &[T]) {
+        for (index, (one, other)) in one.iter().zip(other).enumerate() {
+            self.compare(name, Some(index), one, other);
         }
     }
 
-    fn cells<T: PartialEq + Display>(&mut self, name: &str, port: &[T], rust: &[T]) {
-        for (i, (port, rust)) in port.iter().zip(rust).enumerate() {
-            self.cell(&format!("{name} {i}"), port, rust);
+    fn compare<T: PartialEq + Display>(&mut self, name: &'static str, index: Option<usize>, one: &T, other: &T) {
+        if one != other {
+            let values = [one.to_string(), other.to_string()];
+            self.found.push(Differing { process: self.process, name, index, values });
         }
     }
 }
@@ -469,6 +511,16 @@ mod tests {
         assert!(differing_cells(&port, &rust).is_empty());
         rust.poke(SharedCell::Hash, 8191, 3);
         rust.processes[0].registry[0].mark = 5; // an empty record: not compared
-        assert_eq!(differing_cells(&port, &rust), ["hash 8191: port 0, Rust 3"]);
+        rust.header.max_frame = 9;
+        rust.processes[0].local_owners[1] = 7;
+        let cells = differing_cells(&port, &rust);
+        assert_eq!(
+            cells.iter().map(Differing::between_sides).collect::<Vec<_>>(),
+            ["maxframe: port 0, Rust 9", "hash 8191: port 0, Rust 3", "process 0 lowner 1: port 0, Rust 7"]
+        );
+        assert_eq!(
+            cells.iter().map(Differing::as_change).collect::<Vec<_>>(),
+            ["maxframe 0 -> 9", "hash[8191] 0 -> 3", "lowner[1] 0 -> 7"]
+        );
     }
 }

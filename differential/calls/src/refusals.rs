@@ -1,4 +1,5 @@
-//! Document 01's table of refusals, read for this tool alone: neither the port nor the Rust is asked.
+//! Document 01's table of refusals, read for this tool alone: neither the port nor the Rust is asked. And what the Rust
+//! must do with a refused call.
 
 use crate::memory::{Settings, View, BLOCK_ENTRIES, BLOCK_HASH_CELLS, LINUX_OFD, PROCESS_SCOPED_FCNTL, UNUSED};
 use crate::script::{Call, Part};
@@ -70,14 +71,18 @@ pub enum RustOnRefusal {
     Accepts,
     /// It panics or accepts, by what else is wrong with the call.
     Either,
-    /// The Rust has no such input, or goes its own way with it.
-    NotAsked,
+    /// The Rust has no such input, or would leave its memory; why.
+    NotAsked(&'static str),
 }
 
-pub fn rust_on_refusal(call: &Call, number: u32) -> RustOnRefusal {
-    let shared_release = matches!(call, Call::UnregisterReaderForSnapshot { .. });
+/// Read from the Rust for this tool; the Rust is not asked.
+pub fn rust_on_refusal(asked: &Asked, number: u32) -> RustOnRefusal {
+    let shared_release = matches!(asked.call, Call::UnregisterReaderForSnapshot { .. });
     match number {
-        1 | 2 | 5 | 14 => RustOnRefusal::NotAsked,
+        1 => asked.rust_on_bad_settings(),
+        2 => RustOnRefusal::NotAsked("it maps its own memory"),
+        5 => RustOnRefusal::NotAsked("it returns a vector"),
+        14 => RustOnRefusal::NotAsked("it asks the file for each lock"),
         // A damaged record that names a slot of n or above loses a holder, and 12 may apply besides.
         6 | 9 | 10 if shared_release => RustOnRefusal::Either,
         9 | 10 | 11 | 13 => RustOnRefusal::Accepts,
@@ -146,12 +151,66 @@ impl Asked<'_> {
         if len >= self.settings.capacity as usize || full && !grows {
             return None;
         }
+        self.order_and_hash(len, frame)
+    }
+
+    /// 3 and 4 of an entry that has its place.
+    fn order_and_hash(&self, len: usize, frame: u64) -> Option<u32> {
         if len > 0 && frame <= self.memory.frame(len - 1) {
             return Some(3);
         }
         let first_of_block = len % BLOCK_ENTRIES == 0;
         let hash_full = !first_of_block && !self.memory.block_hash(len / BLOCK_ENTRIES).contains(&0);
         hash_full.then_some(4)
+    }
+
+    /// 1: the Rust takes the lesser of length and capacity and does not look at the blocks in use.
+    fn rust_on_bad_settings(&self) -> RustOnRefusal {
+        use RustOnRefusal::{Accepts, NotAsked, Panics};
+        let len = self.memory.header().frame_index_len.min(self.settings.capacity) as usize;
+        let block_missing = len > BLOCK_ENTRIES * self.memory.room_blocks();
+        let takes_mode = !matches!(self.call, Call::UpdateReader { .. });
+        match *self.call {
+            Call::RecordFrame { frame, grow, .. } => self.rust_records(frame, grow),
+            Call::FindFrame { min, max, watermark, .. } if watermark.unwrap_or(max) < min => Accepts,
+            Call::FindFrame { .. } | Call::IterLatestFrames { .. } | Call::RollbackFrames { .. } => {
+                if block_missing {
+                    Panics
+                } else {
+                    Accepts
+                }
+            }
+            _ if takes_mode && !self.settings.good_mode() => NotAsked("it has two modes"),
+            _ if self.settings.slots > 0 => NotAsked("it would read past its memory"),
+            // No slots.
+            Call::UpdateReader { .. } | Call::UnregisterReader { .. } | Call::UnregisterReaderForSnapshot { .. } => {
+                Panics
+            }
+            _ => Accepts,
+        }
+    }
+
+    /// A record with any length, capacity and number of blocks.
+    fn rust_records(&self, frame: u64, grow: bool) -> RustOnRefusal {
+        let header = self.memory.header();
+        let resets = frame == 1 && header.max_frame == 0;
+        let len = if resets { 0 } else { header.frame_index_len };
+        let mut blocks = header.frame_index_blocks;
+        // As many blocks as it takes, or dropped.
+        while len < self.settings.capacity {
+            let Some(entries) = blocks.checked_mul(BLOCK_ENTRIES as u32) else { return RustOnRefusal::Panics };
+            if len < entries {
+                let len = len as usize;
+                let stored =
+                    len / BLOCK_ENTRIES < self.memory.room_blocks() && self.order_and_hash(len, frame).is_none();
+                return if stored { RustOnRefusal::Accepts } else { RustOnRefusal::Panics };
+            }
+            if !grow || blocks >= self.settings.max_blocks || blocks as usize >= self.memory.room_blocks() {
+                break;
+            }
+            blocks += 1;
+        }
+        RustOnRefusal::Accepts
     }
 
     /// 1 and 2 of a call on the readers that takes the mode and uses these parts.

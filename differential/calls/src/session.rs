@@ -2,10 +2,11 @@
 
 use crate::demand3::Demand3;
 use crate::memory::{
-    copy, differing_cells, Memory, Own, OwnCell, Record, Settings, SharedCell, Slots, View, BLOCK_ENTRIES,
+    copy, differing_cells, Differing, Memory, Own, OwnCell, Record, Settings, SharedCell, Slots, View, BLOCK_ENTRIES,
     BLOCK_HASH_CELLS,
 };
 use crate::refusals::{refusal, rust_on_refusal, Asked, RustOnRefusal};
+use crate::rust_did::RustDid;
 use crate::script::{Answer, Call, Line, New};
 use crate::sides::{Given, Lent, MakeRust, Panicked, Port, Rust};
 use std::fmt;
@@ -151,6 +152,15 @@ impl<'a> Session<'a> {
         }
     }
 
+    /// What the Rust does with a call that is refused; `None` if the line is no such call. Nothing is changed.
+    pub fn rust_on_refused(&mut self, line: &Line) -> Option<RustDid> {
+        let world = self.world.as_mut()?;
+        match line {
+            Line::Call { process, call } if *process < world.processes() => world.rust_on_refused(*process, call),
+            _ => None,
+        }
+    }
+
     pub fn step(&mut self, line: &Line) -> Result<Reply, Box<Difference>> {
         match line {
             Line::Comment(_) => return Ok(Reply::Silent),
@@ -234,7 +244,7 @@ impl World {
         line: &Line,
         cells: Cells,
     ) -> Result<Reply, Box<Difference>> {
-        let number = self.refusal(process, call);
+        let refused = self.refusal(process, call);
         let port_answer = match (port, &mut self.port) {
             (Some(port), Some(memory)) => {
                 let given = Given { memory, process, settings: self.settings, lent: self.lent };
@@ -248,8 +258,8 @@ impl World {
         let Some(rust) = &mut self.rust else {
             return Ok(Reply::Answer(port_answer.expect("a session has a side")));
         };
-        let rust_answer = match number {
-            Some(number) => refused_by_rust(&mut **rust, process, call, number),
+        let rust_answer = match refused {
+            Some(refused) => refused_by_rust(&mut **rust, process, call, &self.settings, refused),
             None => rust.call(process, call).map_err(|Panicked(why)| format!("panicked: {why}")),
         };
         let agree = match (&self.port, &port_answer) {
@@ -267,16 +277,30 @@ impl World {
                 line,
                 port_answer.map_or("not asked".into(), |answer| answer.to_string()),
                 rust_answer.map_or_else(|words| words, |answer| answer.to_string()),
-                self.port.as_ref().map_or(Vec::new(), |memory| differing_cells(memory, &copy(&**rust))),
+                self.port.as_ref().map_or(Vec::new(), |memory| {
+                    differing_cells(memory, &copy(&**rust)).iter().map(Differing::between_sides).collect()
+                }),
             )),
         }
     }
 
-    /// The number by the table of refusals. A list's length is the Rust's.
-    fn refusal(&self, process: usize, call: &Call) -> Option<u32> {
+    /// The number by the table of refusals, and what the Rust must do then. A list's length is the Rust's.
+    fn refusal(&self, process: usize, call: &Call) -> Option<(u32, RustOnRefusal)> {
         let rust = self.rust.as_ref()?;
         let asked = Asked { call, process, settings: &self.settings, lent: &self.lent, memory: self.view() };
-        refusal(&asked, |min, max| rust.pairs(process, min, max))
+        let number = refusal(&asked, |min, max| rust.pairs(process, min, max))?;
+        Some((number, rust_on_refusal(&asked, number)))
+    }
+
+    fn rust_on_refused(&mut self, process: usize, call: &Call) -> Option<RustDid> {
+        if let (_, RustOnRefusal::NotAsked(why)) = self.refusal(process, call)? {
+            return Some(RustDid::NotAsked(why));
+        }
+        let rust = self.rust.as_mut()?;
+        let before = copy(&**rust);
+        let mut after = Memory::default();
+        let answer = rust.attempt(process, call, &self.settings, Some(&mut after));
+        Some(RustDid::new(answer, &before, &after))
     }
 
     fn dump(&mut self, process: usize, line: &Line) -> Result<Reply, Box<Difference>> {
@@ -340,10 +364,15 @@ impl World {
 }
 
 /// A refused call on the Rust: it must panic or accept as the table of refusals says, and is then undone.
-fn refused_by_rust(rust: &mut dyn Rust, process: usize, call: &Call, number: u32) -> Result<Answer, String> {
-    let expected = rust_on_refusal(call, number);
-    if expected != RustOnRefusal::NotAsked {
-        match (rust.attempt(process, call), expected) {
+fn refused_by_rust(
+    rust: &mut dyn Rust,
+    process: usize,
+    call: &Call,
+    settings: &Settings,
+    (number, expected): (u32, RustOnRefusal),
+) -> Result<Answer, String> {
+    if !matches!(expected, RustOnRefusal::NotAsked(_)) {
+        match (rust.attempt(process, call, settings, None), expected) {
             (Ok(answer), RustOnRefusal::Panics) => return Err(format!("{answer}, where {number} is due")),
             (Err(Panicked(why)), RustOnRefusal::Accepts) => {
                 return Err(format!("panicked where {number} is due and acceptance expected: {why}"));

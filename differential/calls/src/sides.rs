@@ -181,14 +181,21 @@ pub struct Panicked(pub String);
 
 /// The Rust, with its own memory.
 pub trait Rust: View {
-    /// Takes those settings that are good. A call that takes a bad one is refused, and does not come here.
+    /// Takes those settings that are good. A call that takes a bad one is refused; only `attempt` makes it.
     fn set_settings(&mut self, settings: &Settings);
 
     /// Makes a call that document 01 does not refuse.
     fn call(&mut self, process: usize, call: &Call) -> Result<Answer, Panicked>;
 
-    /// Makes a call, sees what comes of it, and puts all memory back as it was.
-    fn attempt(&mut self, process: usize, call: &Call) -> Result<Answer, Panicked>;
+    /// Makes a call with these settings, whose slots fit the memory or are 0, sees what comes of it, and puts all memory
+    /// back as it was. `after` becomes the memory as the call left it.
+    fn attempt(
+        &mut self,
+        process: usize,
+        call: &Call,
+        settings: &Settings,
+        after: Option<&mut Memory>,
+    ) -> Result<Answer, Panicked>;
 
     /// How many pairs the list has.
     fn pairs(&self, process: usize, min: u64, max: u64) -> u64;

@@ -20,7 +20,7 @@ const USAGE: &str = "usage: compare FILE                      each call on both 
        compare --random-rust SEED SEQUENCES   the same on the Rust alone, against the table of refusals
        compare --exhaustive LENGTH       every state of two slots with each call on readers, and all sequences of up
                                          to LENGTH calls on the index, on both sides
-       compare --scripts SEED SEQUENCES  prints the scripts of --random
+       compare --scripts SEED SEQUENCES [FAMILY..]   prints the short scripts of --random, with dumps
        compare --cases SEED COUNT        prints cases for crates/recorded_calls; needs no side
        compare --cases-rust SEED COUNT   the Rust's answers to them";
 
@@ -34,6 +34,8 @@ const RUST: Option<MakeRust> = Some(oracle::fresh);
 #[cfg(not(feature = "oracle"))]
 const RUST: Option<MakeRust> = None;
 
+const DEMAND3: &str = "--demand3";
+
 type Run = fn(Sides, &[&str]) -> ExitCode;
 
 fn main() -> ExitCode {
@@ -44,7 +46,7 @@ fn main() -> ExitCode {
         ["--port", _] => (script, Sides { rust: None, ..both }),
         ["--rust", _] => (script, Sides { port: None, ..both }),
         ["--random", _, _, ..] => (random_scripts, both),
-        ["--demand3", _, _] => (holds, Sides { rust: None, ..both }),
+        [DEMAND3, _, _] => (holds, Sides { rust: None, ..both }),
         ["--exhaustive", _] => (all_sequences, both),
         ["--scripts", _, _, ..] => (print_scripts, both),
         ["--cases", _, _] => (print_cases, both),
@@ -53,7 +55,7 @@ fn main() -> ExitCode {
         [file] if !file.starts_with("--") => (script, both),
         _ => return fault(USAGE),
     };
-    if RUST.is_none() && !["--port", "--demand3", "--cases"].contains(&words[0]) {
+    if RUST.is_none() && !["--port", DEMAND3, "--cases"].contains(&words[0]) {
         return fault("the Rust source is missing: only --port, --demand3 and --cases work");
     }
     run(sides, &words)
@@ -64,6 +66,11 @@ fn fault(words: &str) -> ExitCode {
     ExitCode::from(2)
 }
 
+/// A run that compares nothing has not succeeded.
+fn nothing(what: &str) -> ExitCode {
+    fault(&format!("nothing was compared: {what}"))
+}
+
 fn script(sides: Sides, words: &[&str]) -> ExitCode {
     let file = words[words.len() - 1];
     let text = match std::fs::read_to_string(file) {
@@ -72,11 +79,16 @@ fn script(sides: Sides, words: &[&str]) -> ExitCode {
     };
     let mut out = BufWriter::new(std::io::stdout());
     let mut session = Session::new(sides);
+    let both = sides.port.is_some() && sides.rust.is_some();
+    let mut answers = 0;
     for (number, text) in text.lines().enumerate() {
-        let written = match session.step(&Line::parse(text)) {
-            Ok(Reply::Silent) => Ok(()),
-            Ok(reply) => writeln!(out, "{reply}"),
-            Err(difference) => {
+        let line = Line::parse(text);
+        let rust_did = if both { session.rust_on_refused(&line) } else { None };
+        let written = match (session.step(&line), rust_did) {
+            (Ok(Reply::Silent), _) => Ok(()),
+            (Ok(reply @ Reply::Answer(_)), Some(did)) => writeln!(out, "{reply} · {did}"),
+            (Ok(reply), _) => writeln!(out, "{reply}"),
+            (Err(difference), _) => {
                 let _ = write!(out, "line {}: {difference}", number + 1);
                 let _ = out.flush();
                 return ExitCode::from(1);
@@ -85,10 +97,13 @@ fn script(sides: Sides, words: &[&str]) -> ExitCode {
         if written.is_err() {
             return ExitCode::from(2);
         }
+        answers += u64::from(!matches!(line, Line::Comment(_)));
     }
     match out.flush() {
-        Ok(()) => ExitCode::SUCCESS,
         Err(_) => ExitCode::from(2),
+        Ok(()) if answers == 0 => nothing("the script has no line"),
+        Ok(()) if both && session.calls == 0 => nothing("the script has no call"),
+        Ok(()) => ExitCode::SUCCESS,
     }
 }
 
@@ -101,6 +116,10 @@ fn wanted(words: &[&str]) -> Option<Wanted> {
 fn random_scripts(sides: Sides, words: &[&str]) -> ExitCode {
     let Some(wanted) = wanted(&words[1..]) else { return fault(USAGE) };
     match random::run(sides, &wanted, |_| ()) {
+        Ok(Tally { calls: 0, .. }) => nothing("no script has a call"),
+        Ok(Tally { checked, .. }) if words[0] == DEMAND3 && checked == Checked::default() => {
+            nothing("no answer was owed to a hold")
+        }
         Ok(Tally { calls, on_index, on_readers, refused, checked }) => {
             let Wanted { seed, sequences, .. } = wanted;
             let calls = format!("{calls} calls ({on_index} on the index, {on_readers} on readers)");
@@ -121,17 +140,20 @@ fn holds(sides: Sides, words: &[&str]) -> ExitCode {
 fn all_sequences(sides: Sides, words: &[&str]) -> ExitCode {
     let Ok(length) = words[1].parse() else { return fault(USAGE) };
     match states::run(sides) {
+        Ok(states::Tally { calls: 0, .. }) => return nothing("the port has no call on readers"),
         Ok(states::Tally { states, calls }) => {
             println!("exhaustive: {states} states of two slots, {calls} calls, no difference");
         }
         Err(found) => return told(&found),
     }
-    let mut total = 0;
+    let (mut total, mut calls) = (0, 0);
     let run = exhaustive::run(sides, length, |tally| {
         println!("exhaustive: {}, {} sequences", tally.opening, tally.sequences);
         total += tally.sequences;
+        calls += tally.calls;
     });
     match run {
+        Ok(()) if calls == 0 => nothing("no sequence has a call"),
         Ok(()) => {
             println!("exhaustive: {total} sequences of up to {length} calls, no difference");
             ExitCode::SUCCESS
@@ -140,17 +162,32 @@ fn all_sequences(sides: Sides, words: &[&str]) -> ExitCode {
     }
 }
 
+/// The most lines of a script that is printed, and after how many a dump comes.
+const SHORT: usize = 160;
+const BETWEEN_DUMPS: usize = 10;
+
 fn print_scripts(sides: Sides, words: &[&str]) -> ExitCode {
     let Some(wanted) = wanted(&words[1..]) else { return fault(USAGE) };
-    match random::run(sides, &wanted, |script| script.iter().for_each(|line| println!("{line}"))) {
+    let mut printed = 0;
+    let print = |script: &[Line]| {
+        if script.len() <= SHORT {
+            printed += 1;
+            for lines in script.chunks(BETWEEN_DUMPS) {
+                lines.iter().for_each(|line| println!("{line}"));
+                println!("{}", Line::Dump { process: 0 });
+            }
+        }
+    };
+    match random::run(sides, &wanted, print) {
+        Ok(_) if printed == 0 => fault("no script was made"),
         Ok(_) => ExitCode::SUCCESS,
         Err(found) => told(&found),
     }
 }
 
-/// SEED COUNT.
+/// SEED COUNT, of one case or more.
 fn case_count(words: &[&str]) -> Option<(u64, u64)> {
-    Some((words[1].parse().ok()?, words[2].parse().ok()?))
+    Some((words[1].parse().ok()?, words[2].parse().ok()?)).filter(|(_, count)| *count > 0)
 }
 
 fn row(numbers: &[u64]) -> String {

@@ -205,8 +205,12 @@ fn read_registry(own: &mut Own, records: usize, map: &HashMap<u64, SharedReadMar
     for (&mark, registration) in map {
         if own.shared(records, mark).is_none() {
             let (slot, owner, _) = answered(registration.slot);
-            let empty = own.empty_record(records).expect("document 01 refuses a mark without a record");
-            own.registry[empty] = Record { mark, slot, owner, holders: registration.ref_count as u32 };
+            let record = Record { mark, slot, owner, holders: registration.ref_count as u32 };
+            match own.empty_record(records) {
+                Some(empty) => own.registry[empty] = record,
+                // The map has no limit; document 01 refuses the call.
+                None => own.registry.push(record),
+            }
         }
     }
 }

@@ -3,7 +3,7 @@
 use crate::io::MappedFile;
 use crate::shared_wal_coordination::peek::Process;
 use crate::sync::Arc;
-use calls::memory::{Header, Memory, Own, OwnCell, Record, Settings, SharedCell, Slots, View, BLOCK_ENTRIES};
+use calls::memory::{copy, Header, Memory, Own, OwnCell, Record, Settings, SharedCell, Slots, View, BLOCK_ENTRIES};
 use calls::script::{Answer, Call, New};
 use calls::sides::{Panicked, Rust};
 use std::cell::Cell;
@@ -97,6 +97,13 @@ fn slot((slot, owner, mark): (u32, u64, u64)) -> Answer {
     Answer::Slot { slot, owner, mark }
 }
 
+/// Reads the slots, and the process's own cells.
+fn read_back(rust: &Process, slots: &mut Slots, own: &mut Own) {
+    rust.read_slots(slots);
+    rust.read_own_locks(own);
+    rust.read_own_readers(own);
+}
+
 impl World {
     /// Lays the slot arrays out for the n that holds now, and fills them and the own cells.
     fn place_slots(&mut self) {
@@ -128,7 +135,7 @@ impl World {
                 rust.record_frame(page, frame);
                 // The Rust does not say; a stored entry makes the index one longer.
                 let len = if frame == 1 && before.max_frame == 0 { 0 } else { before.frame_index_len };
-                if rust.header().frame_index_len == len + 1 {
+                if rust.header().frame_index_len == len.wrapping_add(1) {
                     Answer::Stored
                 } else {
                     Answer::Dropped
@@ -249,11 +256,8 @@ impl Rust for World {
 
     fn call(&mut self, process: usize, call: &Call) -> Result<Answer, Panicked> {
         let answer = self.make(process, call)?;
-        let rust = &self.processes[process];
-        rust.read_slots(&mut self.slots);
-        let own = &mut self.own[process];
-        rust.read_own_locks(own);
-        rust.read_own_readers(own);
+        let (rust, own) = (&self.processes[process], &mut self.own[process]);
+        read_back(rust, &mut self.slots, own);
         if matches!(call, Call::UnregisterReaderForSnapshot { .. }) {
             // In a damaged registry another record with the mark may count from now on.
             rust.set_own(own);
@@ -261,11 +265,28 @@ impl Rust for World {
         Ok(answer)
     }
 
-    fn attempt(&mut self, process: usize, call: &Call) -> Result<Answer, Panicked> {
+    fn attempt(
+        &mut self,
+        process: usize,
+        call: &Call,
+        settings: &Settings,
+        after: Option<&mut Memory>,
+    ) -> Result<Answer, Panicked> {
         let mut kept = std::mem::take(&mut self.kept);
         // A call on readers that wrote to the index would be seen in the next comparison of it.
         self.file.keep(&mut kept, !call.is_on_readers());
+        // The settings stand in the mapped memory too, and are put back with it.
+        let rust = &self.processes[process];
+        rust.set_index_settings(settings.capacity, settings.max_blocks);
+        if call.is_on_readers() && settings.slots == 0 {
+            rust.set_slot_count(0);
+            rust.set_own(&self.own[process]);
+        }
         let answer = self.make(process, call);
+        if let Some(after) = after {
+            *after = copy(self);
+            read_back(&self.processes[process], &mut after.slots, &mut after.processes[process]);
+        }
         self.file.put_back(&kept);
         self.kept = kept;
         self.processes[process].set_own(&self.own[process]);

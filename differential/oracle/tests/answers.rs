@@ -249,6 +249,36 @@ sowners=a8c7f832281a39c5 lowners=a8c7f832281a39c5 lwriter=0 lckpt=0 registry=
 }
 
 #[test]
+fn what_the_rust_does_with_a_refused_call_is_told_and_undone() {
+    let mut session = Session::new(RUST);
+    let step = |session: &mut Session, line: &str| {
+        session.step(&Line::parse(line)).unwrap_or_else(|difference| panic!("{difference}")).to_string()
+    };
+    for line in ["new 1 1 1 2 F 1", "record 0 5 1 0", "regs 0 7 3 11", "poke sowner 0 8", "poke len 0 2"] {
+        step(&mut session, line);
+    }
+    let before = step(&mut session, "dump 0");
+    for (settings, line, told) in [
+        ("1 1 2 F", "rels 0 3 0 7", "the Rust panics after registry[0] 3:0:7:1 -> empty"),
+        ("1 1 2 F", "upd 0 0 8 5", "the Rust accepts: slot 0 8 5, sframe[0] 3 -> 5"),
+        ("1 1 2 F", "rollback 0 0", "the Rust accepts: kept 0, len 2 -> 0"),
+        ("65537 1 2 F", "list 0 0 9 9", "the Rust accepts: list 1 5:1"),
+        ("1 1 0 F", "floor 0 -", "the Rust accepts: none"),
+        ("1 1 0 F", "rel 0 0 7", "the Rust panics"),
+        ("1 1 2 2", "floor 0 00", "the Rust is not asked: it has two modes"),
+        ("1 1 257 F", "upd 0 0 8 5", "the Rust is not asked: it would read past its memory"),
+        ("1 1 2 F", "floor 0 00", ""),
+        ("1 1 2 F", "floor 1 00", ""),
+        ("1 1 2 F", "dump 0", ""),
+    ] {
+        step(&mut session, &format!("settings {settings}"));
+        let did = session.rust_on_refused(&Line::parse(line));
+        assert_eq!(did.map_or(String::new(), |did| did.to_string()), told, "{line}");
+        assert_eq!(step(&mut session, "dump 0"), before, "{line}");
+    }
+}
+
+#[test]
 fn unknown_lines_and_cells() {
     check(
         "seq 0 => ?
