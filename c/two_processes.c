@@ -307,6 +307,13 @@ static void told_floor(FILE *out, struct wal_floor_reply r) {
         fprintf(out, "none\n");
 }
 
+static void told_limit(FILE *out, struct wal_limit_reply r) {
+    if (r.refusal != 0)
+        fprintf(out, "refused %" PRIu32 "\n", r.refusal);
+    else
+        fprintf(out, "%" PRIu64 "\n", r.limit);
+}
+
 static void told_slots(FILE *out) {
     int used = 0;
     for (size_t slot = 0; slot < SLOTS; slot++)
@@ -339,7 +346,7 @@ static void act(FILE *out, const char *word, uint64_t first, uint64_t second) {
     else if (strcmp(word, "floor") == 0)
         told_floor(out, min_mark());
     else if (strcmp(word, "limit") == 0)
-        fprintf(out, "%" PRIu64 "\n", limit().limit);
+        told_limit(out, limit());
     else if (strcmp(word, "copy") == 0)
         copy_back(out);
     else if (strcmp(word, "again") == 0)

@@ -281,23 +281,29 @@ fn in_each_mode<T>(call: impl Fn(&Kernel, &mut Memory<'_>) -> T) -> [T; 2] {
     })
 }
 
+type Acquires = fn(&mut Process<Locks>, &mut Memory<'_>, SharedOwnerRecord) -> Result<bool, Refusal>;
+type Releases = fn(&mut Process<Locks>, &mut Memory<'_>, SharedOwnerRecord) -> Result<(), Refusal>;
+
 #[test]
 fn only_process_scoped_locks_compare_their_owner() {
-    let writer = in_each_mode(|kernel, memory| {
-        let mut process = kernel.process(1);
-        assert_eq!(process.try_acquire_writer(memory, owner(1)), Ok(true));
-        (process.release_writer(memory, owner(2)), memory.header.writer_owner, kernel.held())
-    });
-    let held = vec![(LockByte::Writer, 1)];
-    assert_eq!(writer, [(Ok(()), 0, vec![]), (Err(Refusal::OtherOwner), owner(1).raw(), held)]);
-
-    let checkpoint = in_each_mode(|kernel, memory| {
-        let mut process = kernel.process(1);
-        assert_eq!(process.try_acquire_checkpoint(memory, owner(1)), Ok(true));
-        (process.release_checkpoint(memory, owner(2)), memory.header.checkpoint_owner, kernel.held())
-    });
-    let held = vec![(LockByte::Checkpoint, 1)];
-    assert_eq!(checkpoint, [(Ok(()), 0, vec![]), (Err(Refusal::OtherOwner), owner(1).raw(), held)]);
+    let both: [(LockByte, Acquires, Releases); 2] = [
+        (LockByte::Writer, Process::try_acquire_writer, Process::release_writer),
+        (LockByte::Checkpoint, Process::try_acquire_checkpoint, Process::release_checkpoint),
+    ];
+    for (byte, acquire, release) in both {
+        let released = in_each_mode(|kernel, memory| {
+            let mut process = kernel.process(1);
+            assert_eq!(acquire(&mut process, memory, owner(1)), Ok(true));
+            let answer = release(&mut process, memory, owner(2));
+            (answer, memory.header.writer_owner, memory.header.checkpoint_owner, kernel.held())
+        });
+        let [writer, checkpoint] = [LockByte::Writer, LockByte::Checkpoint].map(|lock| match lock == byte {
+            true => owner(1).raw(),
+            false => 0,
+        });
+        let refused = (Err(Refusal::OtherOwner), writer, checkpoint, vec![(byte, 1)]);
+        assert_eq!(released, [(Ok(()), 0, 0, vec![]), refused]);
+    }
 }
 
 /// A process that meets three slots with their bit clear, of which the last has no owner and a free lock.
