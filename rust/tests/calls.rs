@@ -160,10 +160,14 @@ fn a_full_table_is_reclaimed_by_a_registration(mode: SharedWalOwnershipMode) -> 
     }
     assert!(dying.register_reader(&mut memory, owner(2), 5)?.is_some());
     assert_eq!(process.register_reader(&mut memory, owner(1), 6), Ok(None));
+    // Its own slots were not asked: their locks would have been granted again, and given back.
+    let held = |last| [(LockByte::Reader(0), 1), (LockByte::Reader(1), 1), (LockByte::Reader(2), last)];
+    assert_eq!(kernel.held(), held(2));
 
     kernel.dies(2);
     let slot = process.register_reader(&mut memory, owner(1), 6)?.expect("the dead reader's slot").slot;
     assert_eq!(slot.number(), 2);
+    assert_eq!(kernel.held(), held(1));
     Ok(())
 }
 
