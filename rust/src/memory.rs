@@ -257,7 +257,8 @@ impl OwnedMemory {
     /// assert_eq!(OwnedMemory::fresh(&settings, 2).err(), Some(Refusal::Settings));
     /// ```
     pub fn fresh(settings: &Settings, starting_blocks: u32) -> Result<Self, Refusal> {
-        settings.check_with(starting_blocks)?;
+        // Before so many cells are asked for; the starting blocks are looked at when the memory is made fresh.
+        settings.check()?;
         let mut memory = OwnedMemory {
             header: Header::default(),
             pages: vec![0; settings.entry_cells()],
