@@ -82,8 +82,10 @@ fn story(path: &Path) -> std::io::Result<()> {
     }
     writer.call("commit 3")?;
 
+    // Its own floors do not ask for the lock that it holds: the hold stays.
     first.call("register")?;
     first.call("find 7 3")?;
+    first.call("floor")?;
 
     // The writer goes on; lookups and lists up to the first reader's mark do not change.
     writer.call("record 7 4")?;
