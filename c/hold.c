@@ -1,4 +1,5 @@
-/* A reader's hold, in one process: what it looks up stays the same while a writer goes on. Run by c/test. */
+/* A reader's hold, in one process: what it looks up stays the same while a writer goes on. How processes share memory
+ * and locks is shown by two_processes.c. Run by c/test. */
 #include <inttypes.h>
 #include <stdio.h>
 #include <string.h>
@@ -69,10 +70,16 @@ static void list(uint64_t up_to) {
     printf("\n");
 }
 
-/* No other process shares this memory: every lock would be granted, and no slot of another one is met. */
-static const uint8_t card[SLOTS] = {WAL_GRANTED, WAL_GRANTED};
+/* No other process shares this memory: every lock would be granted. A slot held here is not asked: it is busy. */
+static uint8_t card[SLOTS];
+
+static void fill_card(void) {
+    for (size_t slot = 0; slot < SLOTS; slot++)
+        card[slot] = local_readers[slot] == 0 ? WAL_GRANTED : WAL_BUSY;
+}
 
 static void limit(void) {
+    fill_card();
     struct wal_limit_reply r = wal_copy_back_limit(SLOTS, MODE, header.max_frame, bitmap, 1, reader_frames, SLOTS,
                                                    reader_owners, SLOTS, local_readers, SLOTS, card, SLOTS);
     if (r.refusal != 0)
@@ -89,6 +96,7 @@ int main(void) {
     record(8199, 2);
     wal_publish_commit(&header, 2, 0, 0, 1);
 
+    fill_card();
     struct wal_reader_reply reader = wal_register_reader_for_snapshot(
         SLOTS, MODE, bitmap, 1, reader_frames, SLOTS, reader_owners, SLOTS, local_readers, SLOTS, registry, SLOTS, card,
         SLOTS, owner, header.max_frame);

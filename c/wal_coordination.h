@@ -2,19 +2,44 @@
  *
  * Link with libwal_coordination.a, which ./build proves and writes. x86-64, System V calling convention.
  *
- * What the caller keeps to. The library is proved for any numbers and any contents of the memory that it is lent; these
- * points it cannot see:
+ * What the caller keeps to. The library is proved for any numbers and any contents of the memory that it is lent;
+ * these points it cannot see:
  *
- *   - A slice is a pointer and a count of elements. The pointer is aligned and not null, also where the count is 0, and
- *     all of its elements are the caller's to lend until the call returns.
- *   - Parts lent to one call do not overlap, and nothing else reads or writes them during the call. Processes that share
- *     memory make one call at a time: a lock of their own around each call sees to it.
+ *   - A slice is a pointer and a count of elements. The pointer is aligned and not null, also where the count is 0,
+ *     and all of its elements are the caller's to lend until the call returns.
+ *   - Parts lent to one call do not overlap, and nothing else reads or writes them during the call. Processes that
+ *     share memory make one call at a time: each takes its turn, by a lock of their own, around what it does. A byte
+ *     lock does not exclude threads of one process, which are granted what their process holds: they need a mutex
+ *     besides.
+ *   - A call runs to its end. A process that is stopped for ever inside one leaves the memory between two stores.
  *   - All calls on one memory are given the same settings. A process has one set of own cells and one registry.
- *   - Lock answers are true for the whole call: 0 busy, 1 granted, 2 error. A card is a row of such bytes, one for each
- *     slot. Locks that were granted for the call and that its answer does not name are freed by the caller.
+ *   - Lock answers are true for the whole call. They are asked, and freed again, by the rules that follow.
  *
- * Every call ends. A refused call answers the number of its refusal alone and changes nothing (docs/REFUSALS.md); 0 means
- * accepted. The comment of a function is its contract in words; the contract itself is in the source of
+ * Locks. Behind the writer lock, the checkpoint lock and each reader slot stands a byte lock of a file. The caller
+ * asks for it without waiting, passes the answer to the call, and holds it for as long as the library's cells say
+ * so. When a process dies the kernel frees its locks; that is how others know its slots as dead. two_processes.c
+ * shows all of this.
+ *
+ *   - What is held here is not asked: a slot with an owner in local_readers, a lock whose own cell is not 0. Its
+ *     byte lock would be granted again, to its own open file description or process; freed after the call, it would
+ *     be gone, and with it the hold: other processes would take the slot for dead and copy over pages that its
+ *     reader still reads.
+ *   - A card has one answer for each slot. For a registration ask the free slots (bit 1) in order until one is
+ *     granted, and only if none is, the others. For the floor, the copy-back limit and
+ *     wal_has_active_db_file_reader ask the slots whose frame is not WAL_UNUSED (WAL_PROCESS_SCOPED_FCNTL: and
+ *     whose owner is not 0). Slots that are held here, and slots that are not asked, stand as WAL_BUSY: a busy slot
+ *     is neither taken nor reclaimed.
+ *   - After the call, accepted or refused, the caller frees each lock that it was granted for this card, but for
+ *     that of the slot that the answer names.
+ *   - WAL_LOCK_ERROR says that a lock could not be asked. A registration passes such a slot over. In WAL_LINUX_OFD
+ *     the floor, the limit and wal_has_active_db_file_reader are refused with 15 if a reader's lock could not be
+ *     asked: nothing is copied then, and the question is put again later. The caller frees what was granted, as
+ *     always.
+ *   - A process opens the file once, and after a fork anew: a descriptor that came from its parent has the parent's
+ *     locks. WAL_PROCESS_SCOPED_FCNTL: to close any descriptor of the file frees all locks of the process.
+ *
+ * Every call ends. A refused call answers the number of its refusal alone and changes nothing (docs/REFUSALS.md); 0
+ * means accepted. The comment of a function is its contract in words; the contract itself is in the source of
  * crates/header_boundary, crates/index_boundary and crates/reader_boundary. */
 #ifndef WAL_COORDINATION_H
 #define WAL_COORDINATION_H
@@ -31,18 +56,19 @@ extern "C" {
 #define WAL_MAX_BLOCKS 16      /* blocks of the index, 4,096 entries each */
 #define WAL_MAX_SLOTS 256      /* reader slots */
 
-/* A process lends 4,096 cells of pages and frames and 8,192 of hash for each block that the index may have. Fresh, every
- * hash cell is 0; pages and frames may hold anything. A hash cell is an entry's place in its block + 1, 0 if it is empty. */
+/* A process lends 4,096 cells of pages and frames and 8,192 of hash for each block that the index may have. Fresh,
+ * every hash cell is 0; pages and frames may hold anything. A hash cell is an entry's place in its block + 1, 0 if
+ * it is empty. */
 #define WAL_BLOCK_ENTRIES 4096
 #define WAL_BLOCK_HASH_CELLS 8192
 
 /* The frame of a reader slot without a reader. */
 #define WAL_UNUSED UINT64_MAX
 
-/* Lock modes. */
+/* Lock modes: locks of an open file description (fcntl with F_OFD_SETLK), and those of a process (F_SETLK). */
 enum { WAL_LINUX_OFD = 0, WAL_PROCESS_SCOPED_FCNTL = 1 };
 
-/* Lock answers. */
+/* Lock answers: another process holds it; it is ours until it is freed; it could not be asked. */
 enum { WAL_BUSY = 0, WAL_GRANTED = 1, WAL_LOCK_ERROR = 2 };
 
 /* Refusals. */
@@ -94,42 +120,45 @@ uint64_t wal_owner_new(uint32_t pid, uint32_t instance_id);
 uint32_t wal_owner_pid(uint64_t owner);
 uint32_t wal_owner_instance_id(uint64_t owner);
 
-/* --- The header ---------------------------------------------------------------------------------------------------- */
+/* --- The header ------------------------------------------------------------------------------------------------- */
 
-/* Publishes a committed transaction: max_frame and transaction_count are raised to these numbers if those are higher, the
- * checksums stored if max_frame is at least the published one, visibility_generation raised by one. */
+/* Publishes a committed transaction: max_frame and transaction_count are raised to these numbers if those are
+ * higher, the checksums stored if max_frame is at least the published one, visibility_generation raised by one. */
 void wal_publish_commit(struct wal_header *header, uint64_t max_frame, uint32_t checksum_1, uint32_t checksum_2,
                         uint64_t transaction_count);
 
-/* Stores how many frames are copied to the database file. */
+/* Stores how many frames are copied to the database file: after they are, under the checkpoint lock. */
 void wal_publish_backfill(struct wal_header *header, uint64_t nbackfills);
 
-/* Raise checkpoint_seq, answering the new number, and checkpoint_epoch, answering the old one. 4,294,967,295 goes to 0. */
+/* Raise checkpoint_seq, answering the new number, and checkpoint_epoch, answering the old one. 4,294,967,295 goes
+ * to 0. */
 uint32_t wal_bump_checkpoint_seq(struct wal_header *header);
 uint32_t wal_bump_checkpoint_epoch(struct wal_header *header);
 
-/* A lock call's answer. answer: 1 if the lock was taken or released, else 0. local_owner: this process's own cell for the
- * lock, as the call leaves it. Store it. */
+/* A lock call's answer. answer: 1 if the lock was taken or released, else 0. local_owner: this process's own cell
+ * for the lock, as the call leaves it. Store it. */
 struct wal_lock_reply {
     uint32_t refusal;
     uint32_t answer;
     uint64_t local_owner;
 };
 
-/* Take the writer, or the checkpoint lock: answer 0 if it is held here (local_owner is not 0) or the card is not 1; else
- * the owner is stored in the header and in the own cell. Refusals 9, 14. */
+/* Take the writer, or the checkpoint lock: answer 0 if it is held here (local_owner is not 0) or the card is not 1;
+ * else the owner is stored in the header and in the own cell. Where the lock is held here its byte is not asked:
+ * pass WAL_BUSY. A byte lock that was granted is freed where answer is 0. Refusals 9, 14. */
 struct wal_lock_reply wal_try_acquire_writer(struct wal_header *header, uint64_t local_owner, uint64_t owner,
                                              uint8_t card);
 struct wal_lock_reply wal_try_acquire_checkpoint(struct wal_header *header, uint64_t local_owner, uint64_t owner,
                                                  uint8_t card);
 
-/* Release it: both cells become 0, and the byte lock is the caller's to free. WAL_PROCESS_SCOPED_FCNTL compares the owner
- * with the own cell. Refusals 1, 7, 8, 9. */
-struct wal_lock_reply wal_release_writer(uint32_t mode, struct wal_header *header, uint64_t local_owner, uint64_t owner);
+/* Release it: both cells become 0, and the byte lock is the caller's to free. WAL_PROCESS_SCOPED_FCNTL compares the
+ * owner with the own cell. Refusals 1, 7, 8, 9. */
+struct wal_lock_reply wal_release_writer(uint32_t mode, struct wal_header *header, uint64_t local_owner,
+                                         uint64_t owner);
 struct wal_lock_reply wal_release_checkpoint(uint32_t mode, struct wal_header *header, uint64_t local_owner,
                                              uint64_t owner);
 
-/* --- The frame index ----------------------------------------------------------------------------------------------- */
+/* --- The frame index -------------------------------------------------------------------------------------------- */
 
 /* The answer of a record (1 stored, 0 dropped) or of a rollback (the length kept). */
 struct wal_index_reply {
@@ -138,14 +167,19 @@ struct wal_index_reply {
 };
 
 /* Appends the entry (page_id, frame_id). Frame 1 with nothing published first empties the index. Dropped, with the
- * overflow flag set, if the capacity is reached, or the blocks are full and may not grow: grow is the file's answer to a
- * growth by one block, 0 for no. Refusals 1, 2, 3, 4. */
+ * overflow flag set, if the capacity is reached, or the blocks are full and may not grow: grow is the file's answer
+ * to a growth by one block, 0 for no. Refusals 1, 2, 3, 4.
+ *
+ * Once a frame is published no call empties the index, and a full one drops every further record. A frame that was
+ * dropped must not be published: no lookup would find it. docs/LIFE-OF-A-FRAME.md says what a caller does ("A full
+ * index"). */
 struct wal_index_reply wal_record_frame(uint32_t capacity, uint32_t max_blocks, struct wal_header *header,
                                         uint64_t *pages, size_t pages_len, uint64_t *frames, size_t frames_len,
                                         uint16_t *hash, size_t hash_len, uint64_t page_id, uint64_t frame_id,
                                         uint32_t grow);
 
-/* Drops entries from the end while the last frame is above max_frame. Refusals 1, 2. */
+/* Drops entries from the end while the last frame is above max_frame. The overflow flag stays as it is. Refusals 1,
+ * 2. */
 struct wal_index_reply wal_rollback_frames(uint32_t capacity, uint32_t max_blocks, struct wal_header *header,
                                            const uint64_t *pages, size_t pages_len, const uint64_t *frames,
                                            size_t frames_len, uint16_t *hash, size_t hash_len, uint64_t max_frame);
@@ -157,8 +191,8 @@ struct wal_find_reply {
     uint64_t frame;
 };
 
-/* The latest frame of a page from min_frame to max_frame. With a watermark (has_watermark not 0) that is the upper bound
- * and the lower one is 0; a watermark below min_frame finds nothing. Nothing changes. Refusals 1, 2. */
+/* The latest frame of a page from min_frame to max_frame. With a watermark (has_watermark not 0) that is the upper
+ * bound and the lower one is 0; a watermark below min_frame finds nothing. Nothing changes. Refusals 1, 2. */
 struct wal_find_reply wal_find_frame(uint32_t capacity, uint32_t max_blocks, struct wal_header header,
                                      const uint64_t *pages, size_t pages_len, const uint64_t *frames,
                                      size_t frames_len, const uint16_t *hash, size_t hash_len, uint64_t page_id,
@@ -171,8 +205,8 @@ struct wal_list_reply {
     uint64_t count;
 };
 
-/* Lists each page's latest frame up to max_frame, if it is at least min_frame, by rising page: pages to out_pages, frames
- * to out_frames. Cells past the pairs are not written. It uses less than 300 KB of stack. Refusals 1, 2, 5. */
+/* Lists each page's latest frame up to max_frame, if it is at least min_frame, by rising page: pages to out_pages,
+ * frames to out_frames. Cells past the pairs are not written. It uses less than 300 KB of stack. Refusals 1, 2, 5. */
 struct wal_list_reply wal_iter_latest_frames(uint32_t capacity, uint32_t max_blocks, struct wal_header header,
                                              const uint64_t *pages, size_t pages_len, const uint64_t *frames,
                                              size_t frames_len, const uint16_t *hash, size_t hash_len,
@@ -181,11 +215,17 @@ struct wal_list_reply wal_iter_latest_frames(uint32_t capacity, uint32_t max_blo
 
 /* --- Readers --------------------------------------------------------------------------------------------------------
  *
- * n is the number of slots. bitmap: (n + 63) / 64 words, bit i % 64 of word i / 64 is 1 where slot i is free; fresh: those
- * bits 1. reader_frames and reader_owners: n cells; fresh: WAL_UNUSED and 0. local_readers: this process's own n cells,
- * 0 where the slot is not held here. registry: this process's n records. card: n bytes. */
+ * n is the number of slots. bitmap: (n + 63) / 64 words, bit i % 64 of word i / 64 is 1 where slot i is free;
+ * fresh: those bits 1. reader_frames and reader_owners: n cells; fresh: WAL_UNUSED and 0. local_readers: this
+ * process's own n cells, 0 where the slot is not held here. registry: this process's n records. card: n bytes,
+ * WAL_BUSY where the slot is held here: the lock of such a slot is neither asked nor freed (see "Locks" above).
+ *
+ * A reader looks at max_frame and nbackfills of the header and registers in one turn: as a reader of the database
+ * file if all published frames are copied (nbackfills equals max_frame), and else at max_frame, the published
+ * frame. */
 
-/* taken: 1 if the reader has a slot; then slot, owner and mark are its number, its owner and its mark. Else all are 0. */
+/* taken: 1 if the reader has a slot; then slot, owner and mark are its number, its owner and its mark. Else all are
+ * 0. */
 struct wal_reader_reply {
     uint32_t refusal;
     uint32_t taken;
@@ -194,8 +234,9 @@ struct wal_reader_reply {
     uint64_t mark;
 };
 
-/* Takes the lowest free slot that is granted and not held here, and if there is none reclaims the slots of dead readers
- * and tries again. Nothing is written if none is taken. Refusals 1, 2, 9, 10, 14. */
+/* Takes the lowest free slot that is granted and not held here, and if there is none reclaims the slots of dead
+ * readers and tries again. Nothing is written if none is taken. The lock of the slot that the answer names is kept
+ * while the slot is held; all others that the card was granted are freed. Refusals 1, 2, 9, 10, 14. */
 struct wal_reader_reply wal_register_reader(size_t n, uint32_t mode, uint64_t *bitmap, size_t bitmap_len,
                                             uint64_t *reader_frames, size_t reader_frames_len,
                                             uint64_t *reader_owners, size_t reader_owners_len,
@@ -208,7 +249,8 @@ struct wal_reader_reply wal_update_reader(size_t n, uint64_t *reader_frames, siz
                                           const struct wal_shared_read_mark *registry, size_t registry_len,
                                           size_t slot, uint64_t owner, uint64_t mark);
 
-/* Releases a reader's slot, whose lock is then the caller's to free. Answers 0 or the refusal: 1, 2, 6, 7, 8, 9, 11. */
+/* Releases a reader's slot, whose lock is then the caller's to free. Answers 0 or the refusal: 1, 2, 6, 7, 8, 9,
+ * 11. */
 uint32_t wal_unregister_reader(size_t n, uint32_t mode, uint64_t *bitmap, size_t bitmap_len, uint64_t *reader_frames,
                                size_t reader_frames_len, uint64_t *reader_owners, size_t reader_owners_len,
                                uint64_t *local_readers, size_t local_readers_len,
@@ -216,21 +258,23 @@ uint32_t wal_unregister_reader(size_t n, uint32_t mode, uint64_t *bitmap, size_t
                                uint64_t owner);
 
 /* Takes a slot at a mark, or joins the connections of this process that share the mark already: the answer is then the
- * first holder's slot and owner. Refusals 1, 2, 9, 10, 13, 14. */
+ * first holder's slot and owner, and every lock that the card was granted is freed: that slot was held here before and
+ * its lock not asked. Refusals 1, 2, 9, 10, 13, 14. */
 struct wal_reader_reply wal_register_reader_for_snapshot(
     size_t n, uint32_t mode, uint64_t *bitmap, size_t bitmap_len, uint64_t *reader_frames, size_t reader_frames_len,
     uint64_t *reader_owners, size_t reader_owners_len, uint64_t *local_readers, size_t local_readers_len,
     struct wal_shared_read_mark *registry, size_t registry_len, const uint8_t *card, size_t card_len, uint64_t owner,
     uint64_t mark);
 
-/* The same at mark 0: a reader of the database file alone. Refusals 1, 2, 9, 13, 14. */
+/* The same at mark 0: a reader of the database file alone, for whom all published frames are copied. While one is
+ * live no process copies a further frame: see wal_copy_back_limit. Refusals 1, 2, 9, 13, 14. */
 struct wal_reader_reply wal_register_db_file_reader(
     size_t n, uint32_t mode, uint64_t *bitmap, size_t bitmap_len, uint64_t *reader_frames, size_t reader_frames_len,
     uint64_t *reader_owners, size_t reader_owners_len, uint64_t *local_readers, size_t local_readers_len,
     struct wal_shared_read_mark *registry, size_t registry_len, const uint8_t *card, size_t card_len, uint64_t owner);
 
-/* Releases a shared mark: a holder less, and the last one empties the slot. The slot's lock is the caller's to free when
- * its own cell has become 0. Answers 0 or the refusal: 1, 2, 6, 7, 8, 9, 10, 12. */
+/* Releases a shared mark: a holder less, and the last one empties the slot. The slot's lock is the caller's to free
+ * when its own cell has become 0. Answers 0 or the refusal: 1, 2, 6, 7, 8, 9, 10, 12. */
 uint32_t wal_unregister_reader_for_snapshot(size_t n, uint32_t mode, uint64_t *bitmap, size_t bitmap_len,
                                             uint64_t *reader_frames, size_t reader_frames_len,
                                             uint64_t *reader_owners, size_t reader_owners_len,
@@ -245,7 +289,8 @@ struct wal_floor_reply {
     uint64_t mark;
 };
 
-/* The floor: the least mark above 0 that is still held. Slots of dead readers that it meets are reclaimed.
+/* The floor: the least mark above 0 that is still held, by slots held here (which are not asked) or in other
+ * processes. Slots of dead readers that it meets are reclaimed. All locks that the card was granted are freed.
  * Refusals 1, 2, 14, 15. */
 struct wal_floor_reply wal_min_active_reader_frame(size_t n, uint32_t mode, uint64_t *bitmap, size_t bitmap_len,
                                                    uint64_t *reader_frames, size_t reader_frames_len,
@@ -259,7 +304,12 @@ struct wal_limit_reply {
 };
 
 /* The copy-back limit: the lesser of max_frame, the published frame, and the floor; max_frame if there is no floor. It
- * reclaims and refuses as the floor does. */
+ * reclaims and refuses as the floor does.
+ *
+ * The limit leaves readers of the database file (mark 0) out, and they must not see a page change: a caller also asks
+ * wal_has_active_db_file_reader, and copies nothing new while its answer is 1 or one of the two was refused. Both
+ * questions, the copying and wal_publish_backfill stand in one turn, under the checkpoint lock: so no such reader
+ * registers in between. docs/LIFE-OF-A-FRAME.md says when the turn may be given up to copy. */
 struct wal_limit_reply wal_copy_back_limit(size_t n, uint32_t mode, uint64_t max_frame, uint64_t *bitmap,
                                            size_t bitmap_len, uint64_t *reader_frames, size_t reader_frames_len,
                                            uint64_t *reader_owners, size_t reader_owners_len,
@@ -272,7 +322,8 @@ struct wal_db_file_reply {
     uint32_t active;
 };
 
-/* Slots of dead readers that it meets are reclaimed. Refusals 1, 2, 14, 15. */
+/* Asked before frames are copied back: see wal_copy_back_limit. Slots of dead readers that it meets are reclaimed. All
+ * locks that the card was granted are freed. Refusals 1, 2, 14, 15. */
 struct wal_db_file_reply wal_has_active_db_file_reader(size_t n, uint32_t mode, uint64_t *bitmap, size_t bitmap_len,
                                                        uint64_t *reader_frames, size_t reader_frames_len,
                                                        uint64_t *reader_owners, size_t reader_owners_len,

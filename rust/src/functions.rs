@@ -1,5 +1,5 @@
-//! The C functions of the static library (c/wal_coordination.h). The file has no type of its own for the header and for
-//! a record of the registry: the module above gives both, laid out as C has them.
+//! The C functions of the static library (c/wal_coordination.h). The file has no type of its own for the header and
+//! for a record of the registry: the module above gives both, laid out as C has them.
 
 use super::{Header, SharedReadMark};
 

@@ -5,12 +5,13 @@
 //! `shared_wal_coordination`, by its names; behind each stands a C function of the proved static library.
 //!
 //! ```
-//! use wal_coordination::{OneProcess, OwnedMemory, Process, Recorded, Settings, SharedOwnerRecord, SharedWalOwnershipMode};
+//! use wal_coordination::{OneProcess, OwnedMemory, Process, Recorded};
+//! use wal_coordination::{Settings, SharedOwnerRecord, SharedWalOwnershipMode};
 //!
 //! let settings = Settings { capacity: 4096, max_blocks: 1, reader_slots: 4, mode: SharedWalOwnershipMode::LinuxOfd };
-//! let mut owned = OwnedMemory::fresh(&settings, 1);
+//! let mut owned = OwnedMemory::fresh(&settings, 1)?;
 //! let mut memory = owned.lend();
-//! let mut process = Process::new(settings, OneProcess);
+//! let mut process = Process::new(settings, OneProcess)?;
 //! let owner = SharedOwnerRecord::new(std::process::id(), 1);
 //!
 //! // A writer records frame 1 of page 7 and publishes it.
@@ -22,13 +23,34 @@
 //! assert_eq!(process.record_frame(&mut memory, 7, 2, false), Ok(Recorded::Stored));
 //! assert_eq!(process.find_frame(&memory, 7, 1, reader.max_frame, None), Ok(Some(1)));
 //!
-//! // Frames above the reader's mark are not copied back before it is released.
+//! // Frames above the reader's mark are not copied back before it is released. (Before it copies, a host also asks
+//! // has_active_db_file_reader: see copy_back_limit.)
 //! process.publish_commit(&mut memory, 2, (0, 0), 2);
 //! assert_eq!(process.copy_back_limit(&mut memory), Ok(1));
 //! process.unregister_reader_for_snapshot(&mut memory, reader)?;
 //! assert_eq!(process.copy_back_limit(&mut memory), Ok(2));
 //! # Ok::<(), wal_coordination::Refusal>(())
 //! ```
+//!
+//! # What a host keeps to
+//!
+//! - **One call at a time.** A [`Memory`] is lent to a call as nobody else's. Processes take turns by a lock of their
+//!   own, for example one byte of the file, which `examples/two_processes` waits for. Byte locks do not exclude
+//!   threads of one process: threads share one [`Process`] and one mapping behind a mutex, and take the turn under it.
+//! - **Readers register in the turn in which they look.** In one turn a reader looks at `max_frame` and `nbackfills`
+//!   of the [`Header`] and registers: if they are equal by [`Process::register_db_file_reader`], and else at
+//!   `max_frame`.
+//! - **Database file readers hold copying back.** Before it copies, a host asks
+//!   [`Process::has_active_db_file_reader`]: see [`Process::copy_back_limit`].
+//! - **A full index stays full.** What a host does then is said at [`Process::record_frame`].
+//!
+//! `docs/LIFE-OF-A-FRAME.md` of the repository has the whole course.
+//!
+//! # The library
+//!
+//! The crate links the proved static library. `WAL_COORDINATION_LIB` is the absolute path of its file at build time,
+//! under any file name; without it, the file that `./build` writes in the repository is linked. A file that is
+//! missing, or is no static library, ends the build.
 #![deny(unsafe_code)]
 
 mod locks;

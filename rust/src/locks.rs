@@ -25,9 +25,9 @@ pub enum LockAnswer {
 
 /// Exclusive locks over bytes of a file, without waiting.
 ///
-/// A [`Process`](crate::Process) never asks for a byte that it holds, and unlocks every byte that was granted and that it
-/// does not keep. When a process dies its locks must become free by themselves: that is how the slots of dead readers are
-/// known.
+/// A [`Process`](crate::Process) never asks for a byte that it holds, which an open file description or a process
+/// would be granted again, and unlocks every byte that was granted and that it does not keep. When a process dies its
+/// locks must become free by themselves: that is how the slots of dead readers are known.
 pub trait ByteLocks {
     /// Takes the lock if it is free.
     fn try_lock(&mut self, byte: LockByte) -> LockAnswer;

@@ -1,6 +1,7 @@
 //! Settings, the shared memory, and what a process keeps for itself.
 
 use crate::raw;
+use crate::refusal::Refusal;
 
 /// Entries of one block of the index.
 pub const BLOCK_ENTRIES: usize = 4096;
@@ -35,6 +36,38 @@ pub struct Settings {
 }
 
 impl Settings {
+    /// Refused with [`Refusal::Settings`] where a setting is out of its limits.
+    ///
+    /// ```
+    /// # use wal_coordination::{SharedWalOwnershipMode::*, *};
+    /// let settings = Settings { capacity: 64, max_blocks: 1, reader_slots: 256, mode: LinuxOfd };
+    /// assert_eq!(settings.check(), Ok(()));
+    /// assert_eq!(Settings { reader_slots: 257, ..settings }.check(), Err(Refusal::Settings));
+    /// ```
+    pub fn check(&self) -> Result<(), Refusal> {
+        self.check_with(0)
+    }
+
+    /// The same, also for more starting blocks than the maximum. The limits are the library's: a call that is lent
+    /// nothing is refused for its settings, and for its memory if they are good.
+    fn check_with(&self, starting_blocks: u32) -> Result<(), Refusal> {
+        let mut nothing = Memory {
+            header: &mut Header { frame_index_blocks: starting_blocks, ..Header::default() },
+            pages: &mut [],
+            frames: &mut [],
+            hash: &mut [],
+            bitmap: &mut [],
+            reader_frames: &mut [],
+            reader_owners: &mut [],
+        };
+        let of_index = raw::find_frame(self, &nothing, 0, 0, 0, None).refusal;
+        let of_readers = raw::has_active_db_file_reader(self, &mut nothing, &[], &[]).refusal;
+        match [of_index, of_readers].contains(&Refusal::Settings.number()) {
+            true => Err(Refusal::Settings),
+            false => Ok(()),
+        }
+    }
+
     /// Cells of pages, and of frames, that the calls ask for.
     pub fn entry_cells(&self) -> usize {
         BLOCK_ENTRIES * self.max_blocks as usize
@@ -149,7 +182,7 @@ pub struct SharedReadMark {
 }
 
 /// The shared memory, lent part by part. Each part is at least as long as the settings ask, or calls are refused.
-/// While it is lent nothing else writes it: processes make one call at a time.
+/// While it is lent nothing else reads or writes it: processes, and threads of one process, make one call at a time.
 pub struct Memory<'a> {
     /// The header.
     pub header: &'a mut Header,
@@ -168,20 +201,33 @@ pub struct Memory<'a> {
 }
 
 impl Memory<'_> {
-    /// Makes it fresh, with so many starting blocks in use. Cells of pages and frames stay as they are.
+    /// Makes it fresh, with so many starting blocks in use. Cells of pages and frames stay as they are, and so do
+    /// cells beyond those that the settings ask for.
     ///
-    /// # Panics
-    ///
-    /// If the bitmap has fewer words than the settings ask.
-    pub fn make_fresh(&mut self, settings: &Settings, starting_blocks: u32) {
+    /// Refused, with nothing changed, where a setting is out of its limits or there are more starting blocks than the
+    /// maximum ([`Refusal::Settings`]), and where a part is too short ([`Refusal::ShortMemory`]).
+    pub fn make_fresh(&mut self, settings: &Settings, starting_blocks: u32) -> Result<(), Refusal> {
+        settings.check_with(starting_blocks)?;
+        let (entries, hash_cells) = (settings.entry_cells(), settings.hash_cells());
+        let (words, slots) = (settings.bitmap_words(), settings.reader_slots);
+        let short = self.pages.len() < entries
+            || self.frames.len() < entries
+            || self.hash.len() < hash_cells
+            || self.bitmap.len() < words
+            || self.reader_frames.len() < slots
+            || self.reader_owners.len() < slots;
+        if short {
+            return Err(Refusal::ShortMemory);
+        }
         *self.header = Header { frame_index_blocks: starting_blocks, ..Header::default() };
-        self.hash.fill(0);
-        self.reader_frames.fill(UNUSED_READER_FRAME);
-        self.reader_owners.fill(0);
-        self.bitmap.fill(0);
-        for slot in 0..settings.reader_slots {
+        self.hash[..hash_cells].fill(0);
+        self.reader_frames[..slots].fill(UNUSED_READER_FRAME);
+        self.reader_owners[..slots].fill(0);
+        self.bitmap[..words].fill(0);
+        for slot in 0..slots {
             self.bitmap[slot / 64] |= 1 << (slot % 64);
         }
+        Ok(())
     }
 
     pub(crate) fn slot_is_free(&self, slot: usize) -> bool {
@@ -201,8 +247,18 @@ pub struct OwnedMemory {
 }
 
 impl OwnedMemory {
-    /// Fresh memory, as long as the settings ask.
-    pub fn fresh(settings: &Settings, starting_blocks: u32) -> Self {
+    /// Fresh memory, as long as the settings ask. Refused with [`Refusal::Settings`] where a setting is out of its
+    /// limits or there are more starting blocks than the maximum.
+    ///
+    /// ```
+    /// # use wal_coordination::{SharedWalOwnershipMode::*, *};
+    /// let settings = Settings { capacity: 64, max_blocks: 1, reader_slots: 1, mode: LinuxOfd };
+    /// assert!(OwnedMemory::fresh(&settings, 1).is_ok());
+    /// assert_eq!(OwnedMemory::fresh(&settings, 2).err(), Some(Refusal::Settings));
+    /// ```
+    pub fn fresh(settings: &Settings, starting_blocks: u32) -> Result<Self, Refusal> {
+        // Before so many cells are asked for; the starting blocks are looked at when the memory is made fresh.
+        settings.check()?;
         let mut memory = OwnedMemory {
             header: Header::default(),
             pages: vec![0; settings.entry_cells()],
@@ -212,8 +268,8 @@ impl OwnedMemory {
             reader_frames: vec![0; settings.reader_slots],
             reader_owners: vec![0; settings.reader_slots],
         };
-        memory.lend().make_fresh(settings, starting_blocks);
-        memory
+        memory.lend().make_fresh(settings, starting_blocks)?;
+        Ok(memory)
     }
 
     /// Lends it to calls.

@@ -13,12 +13,13 @@ use crate::refusal::Refusal;
 pub enum Recorded {
     /// It is in the index.
     Stored,
-    /// The index is full: the overflow flag is set, and lookups no longer see every frame.
+    /// The index is full: the frame is not in it, and the overflow flag is set. It must not be published, since no
+    /// lookup would find it: see [`Process::record_frame`].
     Dropped,
 }
 
-/// A process that shares the memory: its own cells, its registry of shared marks, and its locks. All calls of a process on
-/// a memory go through one of these.
+/// A process that shares the memory: its own cells, its registry of shared marks, and its locks. All calls of a
+/// process on a memory go through one of these; threads of a process share it behind a mutex.
 pub struct Process<L> {
     settings: Settings,
     local_readers: Vec<u64>,
@@ -46,16 +47,24 @@ fn reader_slot(reply: raw::ReaderReply) -> Result<Option<SharedReaderSlot>, Refu
 }
 
 impl<L: ByteLocks> Process<L> {
-    /// A process that holds nothing. The settings are those of all processes on the memory.
-    pub fn new(settings: Settings, locks: L) -> Self {
-        Process {
+    /// A process that holds nothing. The settings are those of all processes on the memory. Refused with
+    /// [`Refusal::Settings`] where one is out of its limits.
+    ///
+    /// ```
+    /// # use wal_coordination::{SharedWalOwnershipMode::*, *};
+    /// let settings = Settings { capacity: 64, max_blocks: 17, reader_slots: 1, mode: LinuxOfd };
+    /// assert_eq!(Process::new(settings, OneProcess).err(), Some(Refusal::Settings));
+    /// ```
+    pub fn new(settings: Settings, locks: L) -> Result<Self, Refusal> {
+        settings.check()?;
+        Ok(Process {
             settings,
             local_readers: vec![0; settings.reader_slots],
             local_writer: 0,
             local_checkpoint: 0,
             registry: vec![SharedReadMark::default(); settings.reader_slots],
             locks,
-        }
+        })
     }
 
     /// Its settings.
@@ -72,15 +81,20 @@ impl<L: ByteLocks> Process<L> {
     ///
     /// Frame 1 with nothing published empties the index first. Other frames must be above the last one.
     ///
+    /// Once a frame is published no call empties the index, and a full one drops every further record. The host then
+    /// gives the transaction up ([`rollback_frames`](Self::rollback_frames) to the published frame), copies all frames
+    /// back, and, in a turn in which nobody holds a slot or a lock, makes the memory fresh ([`Memory::make_fresh`]).
+    ///
     /// ```
-    /// # use wal_coordination::*;
-    /// # let settings = Settings { capacity: 1, max_blocks: 1, reader_slots: 1, mode: SharedWalOwnershipMode::LinuxOfd };
-    /// # let mut owned = OwnedMemory::fresh(&settings, 1);
+    /// # use wal_coordination::{SharedWalOwnershipMode::*, *};
+    /// # let settings = Settings { capacity: 1, max_blocks: 1, reader_slots: 1, mode: LinuxOfd };
+    /// # let mut owned = OwnedMemory::fresh(&settings, 1)?;
     /// # let mut memory = owned.lend();
-    /// let process = Process::new(settings, OneProcess); // a capacity of 1
+    /// let process = Process::new(settings, OneProcess)?; // a capacity of 1
     /// assert_eq!(process.record_frame(&mut memory, 7, 1, true), Ok(Recorded::Stored));
     /// assert_eq!(process.record_frame(&mut memory, 8, 2, true), Ok(Recorded::Dropped));
     /// assert_eq!(memory.header.frame_index_overflowed, 1);
+    /// # Ok::<(), Refusal>(())
     /// ```
     pub fn record_frame(
         &self,
@@ -101,15 +115,15 @@ impl<L: ByteLocks> Process<L> {
         Ok(reply.answer)
     }
 
-    /// The latest frame of a page from `min_frame` to `max_frame`. With a watermark that is the upper bound instead, and
-    /// a frame below `min_frame` may be the answer.
+    /// The latest frame of a page from `min_frame` to `max_frame`. With a watermark that is the upper bound instead,
+    /// and a frame below `min_frame` may be the answer.
     ///
     /// ```
-    /// # use wal_coordination::*;
-    /// # let settings = Settings { capacity: 64, max_blocks: 1, reader_slots: 1, mode: SharedWalOwnershipMode::LinuxOfd };
-    /// # let mut owned = OwnedMemory::fresh(&settings, 1);
+    /// # use wal_coordination::{SharedWalOwnershipMode::*, *};
+    /// # let settings = Settings { capacity: 64, max_blocks: 1, reader_slots: 1, mode: LinuxOfd };
+    /// # let mut owned = OwnedMemory::fresh(&settings, 1)?;
     /// # let mut memory = owned.lend();
-    /// # let process = Process::new(settings, OneProcess);
+    /// # let process = Process::new(settings, OneProcess)?;
     /// for (page, frame) in [(7, 1), (8199, 2), (7, 3)] {
     ///     process.record_frame(&mut memory, page, frame, false)?;
     /// }
@@ -131,14 +145,15 @@ impl<L: ByteLocks> Process<L> {
         Ok((reply.found == 1).then_some(reply.frame))
     }
 
-    /// Each page's latest frame up to `max_frame`, if it is at least `min_frame`: pairs of page and frame, by rising page.
+    /// Each page's latest frame up to `max_frame`, if it is at least `min_frame`: pairs of page and frame, by rising
+    /// page.
     ///
     /// ```
-    /// # use wal_coordination::*;
-    /// # let settings = Settings { capacity: 64, max_blocks: 1, reader_slots: 1, mode: SharedWalOwnershipMode::LinuxOfd };
-    /// # let mut owned = OwnedMemory::fresh(&settings, 1);
+    /// # use wal_coordination::{SharedWalOwnershipMode::*, *};
+    /// # let settings = Settings { capacity: 64, max_blocks: 1, reader_slots: 1, mode: LinuxOfd };
+    /// # let mut owned = OwnedMemory::fresh(&settings, 1)?;
     /// # let mut memory = owned.lend();
-    /// # let process = Process::new(settings, OneProcess);
+    /// # let process = Process::new(settings, OneProcess)?;
     /// for (page, frame) in [(8199, 1), (7, 2), (8199, 3)] {
     ///     process.record_frame(&mut memory, page, frame, false)?;
     /// }
@@ -158,7 +173,8 @@ impl<L: ByteLocks> Process<L> {
         Ok(pages.into_iter().zip(frames).take(count).collect())
     }
 
-    /// The same into cells of the caller's, without allocation. Answers how many pairs; the cells after them are as they were.
+    /// The same into cells of the caller's, without allocation. Answers how many pairs; the cells after them are as
+    /// they were.
     pub fn iter_latest_frames_into(
         &self,
         memory: &Memory<'_>,
@@ -183,7 +199,7 @@ impl<L: ByteLocks> Process<L> {
         raw::publish_commit(memory.header, max_frame, checksums, transaction_count);
     }
 
-    /// Publishes how many frames are copied to the database file.
+    /// Publishes how many frames are copied to the database file: after they are, under the checkpoint lock.
     pub fn publish_backfill(&self, memory: &mut Memory<'_>, nbackfills: u64) {
         raw::publish_backfill(memory.header, nbackfills);
     }
@@ -253,11 +269,11 @@ impl<L: ByteLocks> Process<L> {
     /// Takes a reader slot of its own at a mark. `None` if no slot could be locked.
     ///
     /// ```
-    /// # use wal_coordination::*;
-    /// # let settings = Settings { capacity: 64, max_blocks: 1, reader_slots: 1, mode: SharedWalOwnershipMode::LinuxOfd };
-    /// # let mut owned = OwnedMemory::fresh(&settings, 1);
+    /// # use wal_coordination::{SharedWalOwnershipMode::*, *};
+    /// # let settings = Settings { capacity: 64, max_blocks: 1, reader_slots: 1, mode: LinuxOfd };
+    /// # let mut owned = OwnedMemory::fresh(&settings, 1)?;
     /// # let mut memory = owned.lend();
-    /// # let mut process = Process::new(settings, OneProcess);
+    /// # let mut process = Process::new(settings, OneProcess)?;
     /// let owner = SharedOwnerRecord::new(7, 1);
     /// let reader = process.register_reader(&mut memory, owner, 5)?.expect("the one slot is free");
     /// assert_eq!(process.register_reader(&mut memory, owner, 6), Ok(None));
@@ -316,6 +332,10 @@ impl<L: ByteLocks> Process<L> {
     }
 
     /// Registers a reader of the database file alone, at mark 0. All of them in this process share one slot.
+    ///
+    /// Such a reader needs all published frames to be copied: it is registered in a turn in which `nbackfills` of the
+    /// header equals `max_frame`. While one is live no process copies a further frame: see
+    /// [`copy_back_limit`](Self::copy_back_limit).
     pub fn register_db_file_reader(
         &mut self,
         memory: &mut Memory<'_>,
@@ -344,6 +364,7 @@ impl<L: ByteLocks> Process<L> {
     }
 
     /// The floor: the least mark above 0 that is still held, in any process. Slots of dead readers are reclaimed.
+    /// Readers of the database file, at mark 0, are left out.
     pub fn min_active_reader_frame(&mut self, memory: &mut Memory<'_>) -> Result<Option<u64>, Refusal> {
         let card = self.probe_card(memory);
         let reply = raw::min_active_reader_frame(&self.settings, memory, &self.local_readers, &card);
@@ -352,8 +373,50 @@ impl<L: ByteLocks> Process<L> {
         Ok((reply.found == 1).then_some(reply.mark))
     }
 
-    /// The copy-back limit: frames up to it may be copied to the database file. It is the lesser of the published frame
-    /// and the floor, and reclaims as the floor does.
+    /// The copy-back limit: no frame above it may be copied to the database file. It is the lesser of the published
+    /// frame and the floor, and reclaims as the floor does.
+    ///
+    /// It leaves readers of the database file (mark 0) out, and they must not see a page change. So a host also asks
+    /// [`has_active_db_file_reader`](Self::has_active_db_file_reader), and copies nothing new while the answer is
+    /// `true` or one of the two calls is refused. Both calls, the copying and
+    /// [`publish_backfill`](Self::publish_backfill) stand in one turn, under the checkpoint lock, so that no such
+    /// reader registers in between:
+    ///
+    /// ```
+    /// # use wal_coordination::{SharedWalOwnershipMode::*, *};
+    /// # let settings = Settings { capacity: 64, max_blocks: 1, reader_slots: 2, mode: LinuxOfd };
+    /// # let mut owned = OwnedMemory::fresh(&settings, 1)?;
+    /// # let mut memory = owned.lend();
+    /// # let mut process = Process::new(settings, OneProcess)?;
+    /// # let owner = SharedOwnerRecord::new(7, 1);
+    /// /// Copies frames back in this turn, as far as readers allow. Answers how many are copied.
+    /// fn copy_back<L: ByteLocks>(process: &mut Process<L>, memory: &mut Memory<'_>) -> Result<u64, Refusal> {
+    ///     if !process.has_active_db_file_reader(memory)? {
+    ///         let limit = process.copy_back_limit(memory)?;
+    ///         // Here the frames nbackfills + 1 to limit are copied, and the database file is synced.
+    ///         if limit > memory.header.nbackfills {
+    ///             process.publish_backfill(memory, limit);
+    ///         }
+    ///     }
+    ///     Ok(memory.header.nbackfills)
+    /// }
+    ///
+    /// process.record_frame(&mut memory, 7, 1, false)?;
+    /// process.publish_commit(&mut memory, 1, (0, 0), 1);
+    /// assert!(process.try_acquire_checkpoint(&mut memory, owner)?);
+    /// assert_eq!(copy_back(&mut process, &mut memory), Ok(1));
+    ///
+    /// // All is copied: a reader needs the database file alone. Frame 2 is not copied while it reads.
+    /// let reader = process.register_db_file_reader(&mut memory, owner)?.expect("a slot is free");
+    /// process.record_frame(&mut memory, 7, 2, false)?;
+    /// process.publish_commit(&mut memory, 2, (0, 0), 2);
+    /// assert_eq!(process.copy_back_limit(&mut memory), Ok(2));
+    /// assert_eq!(copy_back(&mut process, &mut memory), Ok(1));
+    /// process.unregister_reader_for_snapshot(&mut memory, reader)?;
+    /// assert_eq!(copy_back(&mut process, &mut memory), Ok(2));
+    /// process.release_checkpoint(&mut memory, owner)?;
+    /// # Ok::<(), Refusal>(())
+    /// ```
     pub fn copy_back_limit(&mut self, memory: &mut Memory<'_>) -> Result<u64, Refusal> {
         let card = self.probe_card(memory);
         let reply = raw::copy_back_limit(&self.settings, memory, &self.local_readers, &card);
@@ -363,7 +426,7 @@ impl<L: ByteLocks> Process<L> {
     }
 
     /// Whether some live reader, in any process, reads only the database file. Slots of dead readers that it meets are
-    /// reclaimed.
+    /// reclaimed. A host asks this before it copies frames back: see [`copy_back_limit`](Self::copy_back_limit).
     pub fn has_active_db_file_reader(&mut self, memory: &mut Memory<'_>) -> Result<bool, Refusal> {
         let card = self.probe_card(memory);
         let reply = raw::has_active_db_file_reader(&self.settings, memory, &self.local_readers, &card);
@@ -380,8 +443,8 @@ impl<L: ByteLocks> Process<L> {
         self.local_readers.get(slot).is_some_and(|&owner| owner != 0)
     }
 
-    /// The lock answers of a registration. Free slots are asked in order until one is granted, which is the one that the
-    /// call takes; only if none is, those that could be reclaimed. A slot that is not asked stands as busy.
+    /// The lock answers of a registration. Free slots are asked in order until one is granted, which is the one that
+    /// the call takes; only if none is, those that could be reclaimed. A slot that is not asked stands as busy.
     fn registration_card(&mut self, memory: &Memory<'_>) -> Vec<u8> {
         let mut card = vec![LockAnswer::Busy as u8; self.settings.reader_slots];
         for free in [true, false] {

@@ -1,6 +1,7 @@
-//! Processes that share one mapped file, with real byte locks. The first process makes the file, starts a writer and two
-//! readers, tells them what to do by lines on their standard input, and prints what they answer. One reader is killed
-//! while it holds a slot; the next floor finds its lock free and reclaims the slot.
+//! Processes that share one mapped file, with real byte locks. The first process makes the file, starts a writer and
+//! two readers, tells them what to do by lines on their standard input, and prints what they answer. One reader is
+//! killed while it holds a slot; the next floor finds its lock free and reclaims the slot. At the end a reader needs
+//! the database file alone, and nothing new is copied into that file while it reads.
 
 mod shared_file;
 
@@ -9,7 +10,7 @@ use std::io::{BufRead, BufReader, Write};
 use std::path::Path;
 use std::process::{Child, ChildStdout, Command, Stdio};
 use wal_coordination::{
-    Process, Recorded, Refusal, Settings, SharedOwnerRecord, SharedReaderSlot, SharedWalOwnershipMode,
+    Memory, Process, Recorded, Refusal, Settings, SharedOwnerRecord, SharedReaderSlot, SharedWalOwnershipMode,
 };
 
 const SETTINGS: Settings =
@@ -81,8 +82,10 @@ fn story(path: &Path) -> std::io::Result<()> {
     }
     writer.call("commit 3")?;
 
-    first.call("register 3")?;
+    // Its own floors do not ask for the lock that it holds: the hold stays.
+    first.call("register")?;
     first.call("find 7 3")?;
+    first.call("floor")?;
 
     // The writer goes on; lookups and lists up to the first reader's mark do not change.
     writer.call("record 7 4")?;
@@ -93,7 +96,7 @@ fn story(path: &Path) -> std::io::Result<()> {
     first.call("list 3")?;
 
     // The second reader sees what is new, and dies with its slot held.
-    second.call("register 4")?;
+    second.call("register")?;
     second.call("find 7 4")?;
     writer.call("floor")?;
     writer.call("limit")?;
@@ -105,6 +108,17 @@ fn story(path: &Path) -> std::io::Result<()> {
     writer.call("floor")?;
     writer.call("slots")?;
     writer.call("limit")?;
+
+    // All frames are copied. A reader now needs the database file alone, and holds back what is published later.
+    writer.call("copy")?;
+    first.call("register")?;
+    writer.call("record 9 5")?;
+    writer.call("commit 5")?;
+    writer.call("limit")?;
+    writer.call("copy")?;
+    first.call("release")?;
+    writer.call("copy")?;
+
     first.call("acquire")?;
     writer.call("unlock")?;
     first.call("acquire")?;
@@ -115,7 +129,7 @@ fn story(path: &Path) -> std::io::Result<()> {
 /// Makes the calls that the lines of standard input name.
 fn serve(path: &Path) -> std::io::Result<()> {
     let mut file = SharedFile::open(path, &SETTINGS)?;
-    let mut process = Process::new(SETTINGS, file.locks());
+    let mut process = Process::new(SETTINGS, file.locks()).map_err(std::io::Error::other)?;
     let owner = SharedOwnerRecord::new(std::process::id(), 1);
     let mut reader = None;
     for line in std::io::stdin().lines() {
@@ -127,6 +141,21 @@ fn serve(path: &Path) -> std::io::Result<()> {
         println!("{}", answer.unwrap_or_else(|refusal| refusal.to_string()));
     }
     Ok(())
+}
+
+/// Copies frames back, as far as readers allow, and publishes how many are copied: all in one turn, under the
+/// checkpoint lock. Nothing new is copied while a reader reads the database file alone, or if one of the two questions
+/// is refused.
+fn copy_back(process: &mut Process<OfdLocks>, memory: &mut Memory<'_>) -> Result<String, Refusal> {
+    if process.has_active_db_file_reader(memory)? {
+        return Ok("nothing copied: the database file is read".into());
+    }
+    let limit = process.copy_back_limit(memory)?;
+    // Here a host copies the frames nbackfills + 1 to limit into the database file, and syncs it.
+    if limit > memory.header.nbackfills {
+        process.publish_backfill(memory, limit);
+    }
+    Ok(format!("{} copied", memory.header.nbackfills))
 }
 
 /// One call, while this process alone has the memory.
@@ -158,9 +187,18 @@ fn call(
             "published".into()
         }
         ("rollback", &[frame]) => format!("{} entries kept", process.rollback_frames(memory, frame)?),
-        ("register", &[mark]) => {
-            *reader = process.register_reader_for_snapshot(memory, owner, mark)?;
-            reader.map_or("no slot".into(), |reader| format!("slot {}", reader.slot.number()))
+        // What is published and what is copied is looked at in the turn in which the reader is registered.
+        ("register", []) => {
+            let published = memory.header.max_frame;
+            *reader = match memory.header.nbackfills == published {
+                true => process.register_db_file_reader(memory, owner)?,
+                false => process.register_reader_for_snapshot(memory, owner, published)?,
+            };
+            match reader {
+                Some(held) if held.max_frame == 0 => format!("slot {}, the database file alone", held.slot.number()),
+                Some(held) => format!("slot {}, frames up to {}", held.slot.number(), held.max_frame),
+                None => "no slot".into(),
+            }
         }
         ("release", []) => match reader.take() {
             Some(held) => {
@@ -179,6 +217,14 @@ fn call(
         }
         ("floor", []) => process.min_active_reader_frame(memory)?.map_or("none".into(), |mark| mark.to_string()),
         ("limit", []) => process.copy_back_limit(memory)?.to_string(),
+        ("copy", []) => match process.try_acquire_checkpoint(memory, owner)? {
+            true => {
+                let copied = copy_back(process, memory);
+                process.release_checkpoint(memory, owner)?;
+                copied?
+            }
+            false => "no checkpoint lock".into(),
+        },
         ("slots", []) => {
             let used = memory.reader_frames.iter().filter(|&&frame| frame != wal_coordination::UNUSED_READER_FRAME);
             format!("{} in use", used.count())

@@ -82,10 +82,11 @@ pub struct SharedFile {
 impl SharedFile {
     /// Makes a file with fresh memory.
     pub fn create(path: &Path, settings: &Settings) -> io::Result<()> {
+        settings.check().map_err(io::Error::other)?;
         let file = OpenOptions::new().read(true).write(true).create_new(true).open(path)?;
         file.set_len(Layout::of(settings).end as u64)?;
         let mut shared = SharedFile::map(file, settings)?;
-        shared.take_turn().memory().make_fresh(settings, 1);
+        shared.take_turn().memory().make_fresh(settings, 1).map_err(io::Error::other)?;
         Ok(())
     }
 
@@ -111,7 +112,8 @@ impl SharedFile {
         OfdLocks { file: self.file.clone(), first: self.layout.end as i64 }
     }
 
-    /// Waits until no other process makes a call.
+    /// Waits until no other process makes a call. Threads of this process would all be granted the turn's lock, at
+    /// once: the file is lent to one of them at a time.
     pub fn take_turn(&mut self) -> Turn<'_> {
         let locks = self.locks();
         locks.set(TURN, F_WRLCK, F_OFD_SETLKW).expect("the turn's lock can be waited for");
@@ -140,7 +142,8 @@ impl Turn<'_> {
     /// The memory.
     pub fn memory(&mut self) -> Memory<'_> {
         let SharedFile { begin, ref layout, ref settings, .. } = *self.file;
-        // The parts lie one after the other in the mapping, aligned to 8 bytes, and other processes wait for their turn.
+        // The parts lie one after the other in the mapping, aligned to 8 bytes, and other processes wait for their
+        // turn.
         unsafe {
             Memory {
                 header: &mut *begin.cast(),
@@ -172,8 +175,8 @@ fn place(byte: LockByte) -> i64 {
     }
 }
 
-/// Byte locks of an open file description, after the end of the memory. The kernel frees them when it is closed, as when
-/// its process is killed.
+/// Byte locks of an open file description, after the end of the memory. The kernel frees them when it is closed, as
+/// when its process is killed.
 pub struct OfdLocks {
     file: Arc<File>,
     first: i64,
