@@ -63,8 +63,8 @@ fn main() -> ExitCode {
         [file] if !file.starts_with("--") => (script, both),
         _ => return fault(USAGE),
     };
-    if RUST.is_none() && !["--port", "--demand3", "--cases"].contains(&words[0]) {
-        return fault("the Rust source is missing: only --port, --demand3 and --cases work");
+    if RUST.is_none() && !["--port", "--demand3", "--cases", "--input"].contains(&words[0]) {
+        return fault("the Rust source is missing: only --port, --demand3, --cases and --input work");
     }
     run(sides, &words)
 }
