@@ -30,7 +30,7 @@ impl Input {
 pub fn inputs(seed: u64) -> Vec<Input> {
     let mut dice = Dice::new(seed, 0);
     let mut inputs = vec![
-        Input::whole("nothing", Vec::new()),
+        Input::whole("no input", Vec::new()),
         Input::whole("one newline", b"\n".to_vec()),
         Input::whole("forms", forms()),
         Input::whole("numbers", numbers()),
