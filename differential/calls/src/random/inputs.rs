@@ -337,7 +337,8 @@ impl Calls {
         }
         match dice.below(20) {
             0 => {
-                let back = if dice.one_in(30) { 5000 } else { 4 };
+                // To any frame, rarely: the index is full by then, more often than not.
+                let back = if dice.one_in(400) { self.last + 1 } else { 4 };
                 self.last = self.last.saturating_sub(dice.below(back));
                 line('B', &[self.last])
             }
