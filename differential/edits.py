@@ -31,10 +31,12 @@ def edits_in(crates, folders):
     for name, _ in crates:
         for edit in sorted((ROOT / "crates" / name / "must-fail").glob("*.edit")):
             yield f"{name}/{edit.stem}", name, edit
-    for folder in folders:
+    for folder in (ROOT / "differential" / folder for folder in folders):
+        if stray := set(folder.iterdir()).difference(folder / name for name, _ in crates):
+            raise SystemExit(f"edits of no crate that is tried: {', '.join(map(str, sorted(stray)))}")
         for name, _ in crates:
-            for edit in sorted((ROOT / "differential" / folder / name).glob("*.edit")):
-                yield f"{folder}/{name}/{edit.stem}", name, edit
+            for edit in sorted((folder / name).glob("*.edit")):
+                yield f"{folder.name}/{name}/{edit.stem}", name, edit
 
 
 def edited_texts(crate, edit):

@@ -29,8 +29,8 @@ fn step(input: Input, bytes: &mut [u8], line: &mut [u8]) -> Input {
     text_lines::input::take_part(input, bytes, line)
 }
 
-// Answers the line that stands in `line`, if it is whole. A row has at most 18 numbers of 20 digits: a line that was cut
-// to its buffer is none.
+// Answers the line that stands in `line`, if it is whole. A row has at most 18 numbers of 20 digits: a line that was
+// cut to its buffer is none.
 fn answer_if_whole(input: Input, line: &[u8]) -> Input {
     if !input.is_line_whole {
         return input;

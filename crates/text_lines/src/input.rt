@@ -1,6 +1,6 @@
 // Standard input, taken line by line. Bytes are read into one buffer, and a line's bytes are put into another, without
-// its newline: a last line that has none is a line as others are, and nothing behind the last newline is no line. A line
-// that is longer than its buffer fills it, and what does not fit is left out.
+// its newline: a last line that has none is a line as others are, and nothing behind the last newline is no line.
+// A line that is longer than its buffer fills it, and what does not fit is left out.
 use crate::line::byte_at;
 use libc::STDIN_FILENO;
 

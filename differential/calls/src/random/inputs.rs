@@ -179,6 +179,7 @@ fn numbers() -> Vec<u8> {
         put(&mut bytes, line('R', &[frame, frame]));
         put(&mut bytes, line('L', &[frame, frame]));
         put(&mut bytes, line('F', &[frame, frame, GREATEST]));
+        put(&mut bytes, line('F', &[frame, 0, frame]));
     }
     bytes
 }
