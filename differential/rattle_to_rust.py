@@ -14,6 +14,32 @@ STD = """pub mod num {
     for op in ("add", "sub")
 )
 
+# The toolchain's crates that programs use, as far as they do.
+TOOLCHAIN = {
+    "libc": """pub const STDIN_FILENO: i32 = 0;
+pub const STDOUT_FILENO: i32 = 1;
+mod c {
+    extern "C" {
+        pub fn read(fd: i32, bytes: *mut u8, len: usize) -> isize;
+        pub fn write(fd: i32, bytes: *const u8, len: usize) -> isize;
+    }
+}
+pub fn read(fd: i32, bytes: &mut [u8]) -> isize { unsafe { c::read(fd, bytes.as_mut_ptr(), bytes.len()) } }
+pub fn write(fd: i32, bytes: &[u8]) -> isize { unsafe { c::write(fd, bytes.as_ptr(), bytes.len()) } }
+""",
+    "io": """pub fn count(got: isize, bytes: &[u8]) -> usize { got.clamp(0, bytes.len() as isize) as usize }
+pub fn write_all(fd: i32, bytes: &[u8]) -> bool {
+    let mut left = bytes;
+    while !left.is_empty() {
+        let put = count(libc::write(fd, left), left);
+        if put == 0 { return false; }
+        left = &left[put..];
+    }
+    true
+}
+""",
+}
+
 CLAUSE = re.compile(r"\b(?:ghost|requires|ensures)\b(?:\s+[^\s{};]+)?\s*\{")
 DECLARED = re.compile(r"^([ \t]*)((?:pub(?:\([a-z]+\))? )?(?:struct|enum) )", re.M)
 EXPORTED = re.compile(r'#\[no_mangle\]\s*pub extern "C" fn (\w+)\(([^)]*)\)\s*(->\s*[^{]*)?\{')
@@ -75,8 +101,8 @@ BOUNDARIES = ["header_boundary", "index_boundary", "reader_boundary"]
 
 
 def crates_of(root, names):
-    """The crates and all of the repository that they need, the needed ones first, each with those that it names."""
-    needs = {}
+    """The crates and all that they need, the needed ones first, each with those that it names."""
+    needs = {"libc": [], "io": ["libc"]}
     for line in (root / "crates.txt").read_text().splitlines():
         if (line := line.split("#")[0].strip()) and ":" in line:
             crate, words = line.split(":", 1)
@@ -97,5 +123,7 @@ def crates_of(root, names):
 
 def translated(crate):
     """The Rust text of each source file of a crate, by its path under src/."""
+    if Path(crate).name in TOOLCHAIN:
+        return {"lib.rs": TOOLCHAIN[Path(crate).name]}
     source = Path(crate) / "src"
     return {str(f.relative_to(source).with_suffix(".rs")): rust(f.read_text()) for f in sorted(source.rglob("*.rt"))}

@@ -26,9 +26,13 @@ pub reads-eleven-digits : field-of (blanks-before 1 (replicate 11 57)) ≡ Numbe
 unfolding field-of after-blanks plain-number digits-after
 reads-eleven-digits = refl
 
-pub no-twelve-digits : field-of (replicate 12 57) ≡ NoNumber
+pub reads-twelve-digits : field-of (replicate 12 57) ≡ Number 999999999999
+unfolding field-of after-blanks plain-number digits-after
+reads-twelve-digits = refl
+
+pub no-thirteen-digits : field-of (replicate 13 57) ≡ NoNumber
 unfolding field-of
-no-twelve-digits = refl
+no-thirteen-digits = refl
 
 pub no-leading-zero : field-of (blanks-before 10 (48 ∷ (55 ∷ []))) ≡ NoNumber
 unfolding field-of after-blanks plain-number
@@ -42,25 +46,38 @@ pub no-blank-field : field-of (replicate 12 32) ≡ NoNumber
 unfolding field-of after-blanks
 no-blank-field = refl
 
-pub reads-record : request-of ((82 ∷ blanks-before 8 digits-8199) ++ (blanks-before 11 (50 ∷ []) ++ (10 ∷ []))) ≡ Record 8199 2
+pub reads-record : request-of ((82 ∷ blanks-before 8 digits-8199) ++ blanks-before 11 (50 ∷ [])) ≡ Record 8199 2
 unfolding request-of field-at field-of after-blanks plain-number digits-after
 reads-record = refl
 
-pub reads-rollback : request-of ((66 ∷ blanks-before 11 (50 ∷ [])) ++ (10 ∷ [])) ≡ Rollback 2
+pub reads-full-field : request-of ((82 ∷ replicate 12 57) ++ blanks-before 11 (50 ∷ [])) ≡ Record 999999999999 2
+unfolding request-of field-at field-of after-blanks plain-number digits-after
+reads-full-field = refl
+
+pub reads-rollback : request-of (66 ∷ blanks-before 11 (50 ∷ [])) ≡ Rollback 2
 unfolding request-of field-at field-of after-blanks plain-number digits-after
 reads-rollback = refl
 
-pub reads-find : request-of ((70 ∷ blanks-before 11 (55 ∷ [])) ++ (blanks-before 11 (49 ∷ []) ++ (blanks-before 11 (50 ∷ []) ++ (10 ∷ [])))) ≡ Find 7 1 2
+pub reads-find : request-of ((70 ∷ blanks-before 11 (55 ∷ [])) ++ (blanks-before 11 (49 ∷ []) ++ blanks-before 11 (50 ∷ []))) ≡ Find 7 1 2
 unfolding request-of field-at field-of after-blanks plain-number digits-after
 reads-find = refl
 
-pub reads-list : request-of ((76 ∷ blanks-before 11 (49 ∷ [])) ++ (blanks-before 11 (57 ∷ []) ++ (10 ∷ []))) ≡ Listing 1 9
+pub reads-list : request-of ((76 ∷ blanks-before 11 (49 ∷ [])) ++ blanks-before 11 (57 ∷ [])) ≡ Listing 1 9
 unfolding request-of field-at field-of after-blanks plain-number digits-after
 reads-list = refl
 
-pub no-newline : request-of (66 ∷ blanks-before 11 (50 ∷ [])) ≡ OtherForm
+-- a line with its newline in it, an empty line and one that is a column short
+pub no-newline : request-of ((66 ∷ blanks-before 11 (50 ∷ [])) ++ (10 ∷ [])) ≡ OtherForm
 unfolding request-of
 no-newline = refl
+
+pub no-empty-line : request-of [] ≡ OtherForm
+unfolding request-of
+no-empty-line = refl
+
+pub no-short-line : request-of (66 ∷ blanks-before 10 (50 ∷ [])) ≡ OtherForm
+unfolding request-of
+no-short-line = refl
 
 pub writes-zero : in-columns 12 0 ≡ blanks-before 11 (48 ∷ [])
 unfolding in-columns columns-before

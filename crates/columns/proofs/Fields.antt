@@ -16,7 +16,7 @@ use Rattle.columns.specs.Field.{digits-after, plain-number, after-blanks
 pub drop-end : (l : List ℕ) (i : ℕ) → length l ≡ i → drop i l ≡ []
 drop-end l i e = rw (← e) (drop-length l)
 
--- a number of no digits, one with a digit more, and how large one of at most 10 digits is
+-- a number of no digits, one with a digit more, and how large one of at most 11 digits is
 pub none-below : (i : ℕ) → 0 < 10 ^ (i - i)
 none-below i = let e : i - i ≡ 0 = omega arith in rw e (omega arith)
 
@@ -25,9 +25,9 @@ more-below n d i first f b t =
     let e : i + 1 - first ≡ suc (i - first) = omega arith in
     rw (e, pow-suc) (omega arith)
 
-pub ten-digits : (n i first : ℕ) → i - first ≤ 10 → n < 10 ^ (i - first) → n < 10000000000
-ten-digits n i first t b =
-    let p : 10 ^ (i - first) ≤ 10 ^ 10 = pow-le-pow-right (omega arith) t in
+pub eleven-digits : (n i first : ℕ) → i - first ≤ 11 → n < 10 ^ (i - first) → n < 100000000000
+eleven-digits n i first t b =
+    let p : 10 ^ (i - first) ≤ 10 ^ 11 = pow-le-pow-right (omega arith) t in
     omega arith
 
 module _ (l : List ℕ) (i n : ℕ) (w : Field) (rest : digits-after n (drop i l) ≡ w) where

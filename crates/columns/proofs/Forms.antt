@@ -8,8 +8,8 @@ use lib.ListN.{length}
 use borrow.Author.Tests.{eqb-true}
 use Rattle.columns.specs.Request.{has-form}
 
-pub form-length : (line : List ℕ) (letter fields : ℕ) → has-form line letter fields ≡ true → length line ≡ 12 * fields + 2
-form-length line letter fields e = eqb-true _ _ (go (eqb (length line) (12 * fields + 2)) _ e)
+pub form-length : (line : List ℕ) (letter fields : ℕ) → has-form line letter fields ≡ true → length line ≡ 12 * fields + 1
+form-length line letter fields e = eqb-true _ _ (go (eqb (length line) (12 * fields + 1)) _ e)
   where
     go : (x y : Bool) → x && y ≡ true → x ≡ true
     go true y e = refl

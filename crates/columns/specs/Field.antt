@@ -4,7 +4,7 @@ use mathlib.Core.Bool.{Bool, _&&_, cond}
 use mathlib.Core.List.{List, [], _∷_}
 use Prim.Native.Nat.{ℕ, _+_, _-_, _*_}
 use lib.Dec.{eqb, leb}
-use lib.ListN.{length, getD, drop}
+use lib.ListN.{length}
 use Rattle.columns.specs.declared.field.Field.{Field}
 use Rattle.columns.specs.declared.field.Field.the-variants.{Number, NoNumber}
 
@@ -31,6 +31,6 @@ unfoldable pub after-blanks : List ℕ → Field
 after-blanks [] = NoNumber
 after-blanks (b ∷ bs) = cond (eqb b 32) (after-blanks bs) (plain-number (b ∷ bs))
 
--- A field has 12 columns. The first is blank, so a number has at most 11 digits.
+-- A field has 12 columns: a number of 12 digits fills them.
 unfoldable pub field-of : List ℕ → Field
-field-of bs = cond (eqb (length bs) 12 && eqb (getD bs 0 0) 32) (after-blanks (drop 1 bs)) NoNumber
+field-of bs = cond (eqb (length bs) 12) (after-blanks bs) NoNumber

@@ -1,4 +1,4 @@
--- A line with its newline: a letter, and as many fields as the letter has. Assumes nothing.
+-- A line, its newline left out: a letter, and as many fields as the letter has. Assumes nothing.
 use mathlib.Core.Bool.{Bool, _&&_, cond}
 use mathlib.Core.List.{List}
 use Prim.Native.Nat.{ℕ, _+_, _*_}
@@ -10,10 +10,10 @@ use Rattle.columns.specs.declared.request.Request.{Request}
 use Rattle.columns.specs.declared.request.Request.the-variants.{Record, Rollback, Find, List as Listing, OtherForm}
 use Rattle.columns.specs.Field.{field-of}
 
--- the letter, 12 columns for each field, and the newline at the end
+-- the letter, and 12 columns for each field
 abbrev pub has-form : List ℕ → ℕ → ℕ → Bool
 has-form line letter fields =
-    eqb (length line) (12 * fields + 2) && (eqb (getD line 0 0) letter && eqb (getD line (12 * fields + 1) 0) 10)
+    eqb (length line) (12 * fields + 1) && eqb (getD line 0 0) letter
 
 -- the field that starts at this column, the letter's being 0
 unfoldable pub field-at : List ℕ → ℕ → Field

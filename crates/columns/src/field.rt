@@ -17,7 +17,7 @@ fn wide(b: u8) -> u64
 
 // Digits from this column to the last.
 fn digits_from(field: &[u8], first: usize) -> Field
-    requires { ⌜ (first ≤ length (now field)) × (length (now field) ≤ first + 11) ⌝ }
+    requires { ⌜ (first ≤ length (now field)) × (length (now field) ≤ first + 12) ⌝ }
     ensures { λ r. ⌜ r ≡ digits-after 0 (drop first (now (field .entry))) ⌝ }
 {
     let mut n: u64 = 0;
@@ -38,7 +38,7 @@ fn digits_from(field: &[u8], first: usize) -> Field
 
 // A number without leading zeros from this column to the last.
 fn number_from(field: &[u8], first: usize) -> Field
-    requires { ⌜ (first ≤ length (now field)) × (length (now field) ≤ first + 11) ⌝ }
+    requires { ⌜ (first ≤ length (now field)) × (length (now field) ≤ first + 12) ⌝ }
     ensures { λ r. ⌜ r ≡ plain-number (drop first (now (field .entry))) ⌝ }
 {
     if first == field.len() {
@@ -53,12 +53,11 @@ fn number_from(field: &[u8], first: usize) -> Field
     Field::NoNumber
 }
 
-// The first column after the field's first that is not blank.
+// The first column that is not blank.
 fn first_digit(field: &[u8]) -> usize
-    requires { ⌜ 1 ≤ length (now field) ⌝ }
-    ensures { λ r. ⌜ ((1 ≤ r) × (r ≤ length (now (field .entry)))) × (plain-number (drop r (now (field .entry))) ≡ after-blanks (drop 1 (now (field .entry)))) ⌝ }
+    ensures { λ r. ⌜ (r ≤ length (now (field .entry))) × (plain-number (drop r (now (field .entry))) ≡ after-blanks (now (field .entry))) ⌝ }
 {
-    let mut i = 1;
+    let mut i = 0;
     while i < field.len() {
         if field[i] != b' ' {
             return i;
@@ -72,9 +71,6 @@ pub fn read_field(field: &[u8]) -> Field
     ensures { λ r. ⌜ r ≡ field-of (now (field .entry)) ⌝ }
 {
     if field.len() != 12 {
-        return Field::NoNumber;
-    }
-    if field[0] != b' ' {
         return Field::NoNumber;
     }
     let first = first_digit(field);

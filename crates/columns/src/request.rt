@@ -22,13 +22,10 @@ fn has_form(line: &[u8], letter: u8, fields: usize) -> bool
     requires { ⌜ fields ≤ 3 ⌝ }
     ensures { λ r. ⌜ r ≡ has-form (now (line .entry)) letter fields ⌝ }
 {
-    if line.len() != 12 * fields + 2 {
+    if line.len() != 12 * fields + 1 {
         return false;
     }
-    if line[0] != letter {
-        return false;
-    }
-    line[12 * fields + 1] == b'\n'
+    line[0] == letter
 }
 
 fn field_at(line: &[u8], column: usize) -> Field
@@ -40,7 +37,7 @@ fn field_at(line: &[u8], column: usize) -> Field
 }
 
 fn record_request(line: &[u8]) -> Request
-    requires { ⌜ length (now line) ≡ 26 ⌝ }
+    requires { ⌜ length (now line) ≡ 25 ⌝ }
     ensures { λ r. ⌜ r ≡ record-of (field-at (now (line .entry)) 1) (field-at (now (line .entry)) 13) ⌝ }
 {
     let Field::Number(page) = field_at(line, 1) else {
@@ -53,7 +50,7 @@ fn record_request(line: &[u8]) -> Request
 }
 
 fn rollback_request(line: &[u8]) -> Request
-    requires { ⌜ length (now line) ≡ 14 ⌝ }
+    requires { ⌜ length (now line) ≡ 13 ⌝ }
     ensures { λ r. ⌜ r ≡ rollback-of (field-at (now (line .entry)) 1) ⌝ }
 {
     let Field::Number(frame) = field_at(line, 1) else {
@@ -63,7 +60,7 @@ fn rollback_request(line: &[u8]) -> Request
 }
 
 fn find_request(line: &[u8]) -> Request
-    requires { ⌜ length (now line) ≡ 38 ⌝ }
+    requires { ⌜ length (now line) ≡ 37 ⌝ }
     ensures { λ r. ⌜ r ≡ find-of (field-at (now (line .entry)) 1) (field-at (now (line .entry)) 13) (field-at (now (line .entry)) 25) ⌝ }
 {
     let Field::Number(page) = field_at(line, 1) else {
@@ -79,7 +76,7 @@ fn find_request(line: &[u8]) -> Request
 }
 
 fn list_request(line: &[u8]) -> Request
-    requires { ⌜ length (now line) ≡ 26 ⌝ }
+    requires { ⌜ length (now line) ≡ 25 ⌝ }
     ensures { λ r. ⌜ r ≡ list-of (field-at (now (line .entry)) 1) (field-at (now (line .entry)) 13) ⌝ }
 {
     let Field::Number(min_frame) = field_at(line, 1) else {
@@ -91,7 +88,7 @@ fn list_request(line: &[u8]) -> Request
     Request::List(min_frame, max_frame)
 }
 
-// Reads a line, which has its newline at its end.
+// Reads a line, which is given without its newline.
 pub fn read_request(line: &[u8]) -> Request
     ensures { λ r. ⌜ r ≡ request-of (now (line .entry)) ⌝ }
 {

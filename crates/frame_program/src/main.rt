@@ -93,9 +93,10 @@ fn serve(
     output::flush(state, out);
 }
 
+// A line has room for one byte more than the longest form, F's 37: a longer line is cut, and its 38 bytes are no form.
 fn main() {
     let mut input = [0u8; 65536];
-    let mut line = [0u8; 39];
+    let mut line = [0u8; 38];
     let mut out = [0u8; 65536];
     let mut pages = [0u64; 4096];
     let mut frames = [0u64; 4096];

@@ -1,7 +1,7 @@
 // Makes calls whose answers by the Rust are recorded. Standard input has a call to a line: a row of decimal numbers with
 // single spaces between, the call's number and then all that the call is given, cells and arguments (`calls`). The
 // program answers a row: the refusal or 0, the answer's numbers, and every cell that the call could have changed. A line
-// that starts with # is a comment and has no answer. Any other line answers `?`, and so does one without its newline.
+// that starts with # is a comment and has no answer. Any other line answers `?`.
 //
 // Calls that are lent the registry of shared marks are not here: their recorded answers are held against the static
 // library (./compare --recorded).
@@ -14,27 +14,11 @@ use row::Row;
 use text_lines::input::Input;
 use text_lines::line::byte_at;
 
-// The numbers of the line that stands in `line`. One without its newline is too long, or the input's last.
-fn row_of(line: &[u8], len: usize) -> Row {
-    let first = 0;
-    if len == 0 {
-        return row::other_form();
-    }
-    let end = len - 1;
-    if end >= line.len() {
-        return row::other_form();
-    }
-    if line[end] != b'\n' {
-        return row::other_form();
-    }
-    row::read(&line[first..end])
-}
-
-fn answer_line(line: &[u8], len: usize) {
+fn answer_line(line: &[u8]) {
     if byte_at(line, 0) == b'#' {
         return;
     }
-    row::write(calls::perform(row_of(line, len)));
+    row::write(calls::perform(row::read(line)));
 }
 
 // One step towards a whole line: takes what was read, or reads more.
@@ -45,12 +29,17 @@ fn step(input: Input, bytes: &mut [u8], line: &mut [u8]) -> Input {
     text_lines::input::take_part(input, bytes, line)
 }
 
-// Answers the line that stands in `line`, if it is whole.
+// Answers the line that stands in `line`, if it is whole. A row has at most 18 numbers of 20 digits: a line that was
+// cut to its buffer is none.
 fn answer_if_whole(input: Input, line: &[u8]) -> Input {
     if !input.is_line_whole {
         return input;
     }
-    answer_line(line, input.line_len);
+    let first = 0;
+    let len = input.line_len;
+    if len <= line.len() {
+        answer_line(&line[first..len]);
+    }
     text_lines::input::without_line(input)
 }
 

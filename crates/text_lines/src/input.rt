@@ -1,5 +1,6 @@
-// Standard input, taken line by line. Bytes are read into one buffer, and a line's bytes are put into another, its
-// newline with them. A line that is longer than its buffer fills it, and what does not fit is left out.
+// Standard input, taken line by line. Bytes are read into one buffer, and a line's bytes are put into another, without
+// its newline: a last line that has none is a line as others are, and nothing behind the last newline is no line.
+// A line that is longer than its buffer fills it, and what does not fit is left out.
 use crate::line::byte_at;
 use libc::STDIN_FILENO;
 
@@ -56,15 +57,15 @@ pub fn take_part(input: Input, bytes: &[u8], line: &mut [u8]) -> Input {
     while at < to {
         let b = byte_at(bytes, at);
         at += 1;
-        len = put(line, len, b);
         if b == b'\n' {
             return with_line(input, at, len, true);
         }
+        len = put(line, len, b);
     }
     with_line(input, at, len, false)
 }
 
-// The input ended. A last line without its newline is whole too.
+// The input ended. Bytes behind the last newline are a whole line too.
 fn at_end(input: Input) -> Input {
     let mut next = input;
     next.is_line_whole = input.line_len > 0;

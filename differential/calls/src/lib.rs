@@ -1,5 +1,6 @@
 //! Sequences of calls on the port and on the Rust, and their comparison.
 //!
+//! - `columns`: the program of document 01: what its lines ask, and the Rust's answers in columns.
 //! - `memory`: the cells that a call may read or write, and their dump.
 //! - `script`: the lines of a call script.
 //! - `sides`: what the port and the Rust each have to offer.
@@ -7,10 +8,12 @@
 //! - `rust_did`: what the Rust did with one, in words.
 //! - `demand3`: what a hold is owed, checked at run time.
 //! - `session`: one script on one side or on both, with every cell compared after each call.
-//! - `random`: scripts of its own making, and the shortest one that shows a difference; cases of one call each.
+//! - `random`: scripts of its own making, and the shortest one that shows a difference; cases of one call each; inputs of
+//!   the program.
 //! - `exhaustive`: all short sequences of calls on the index.
 //! - `states`: every state of two reader slots, and each call on readers in it.
 
+pub mod columns;
 pub mod demand3;
 pub mod exhaustive;
 pub mod memory;

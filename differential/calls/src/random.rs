@@ -5,6 +5,7 @@ mod dice;
 mod header;
 mod holds;
 mod index;
+pub mod inputs;
 mod readers;
 
 use crate::demand3::Checked;

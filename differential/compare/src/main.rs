@@ -1,8 +1,12 @@
 //! `./compare`: call scripts on the port and on the Rust.
 
+mod program;
+
+use calls::columns;
 use calls::demand3::Checked;
 use calls::exhaustive;
 use calls::random::cases::{cases, other_forms};
+use calls::random::inputs::inputs;
 use calls::random::{self, Family, Found, Tally, Wanted};
 use calls::script::Line;
 use calls::session::{Reply, Session, Sides};
@@ -22,7 +26,10 @@ const USAGE: &str = "usage: compare FILE                      each call on both 
                                          to LENGTH calls on the index, on both sides
        compare --scripts SEED SEQUENCES [FAMILY..]   prints the short scripts of --random, with dumps
        compare --cases SEED COUNT        prints cases for crates/recorded_calls; needs no side
-       compare --cases-rust SEED COUNT   the Rust's answers to them";
+       compare --cases-rust SEED COUNT   the Rust's answers to them
+       compare --columns FILE            the Rust's answers to lines of the program, in columns
+       compare --program SEED            the program WAL_PROGRAM on inputs of the tool's own making
+       compare --input SEED NAME         prints one of these inputs";
 
 #[cfg(feature = "port")]
 const PORT: Option<&dyn Port> = Some(&port::Library);
@@ -51,12 +58,15 @@ fn main() -> ExitCode {
         ["--scripts", _, _, ..] => (print_scripts, both),
         ["--cases", _, _] => (print_cases, both),
         ["--cases-rust", _, _] => (print_case_answers, Sides { port: None, ..both }),
+        ["--columns", _] => (print_columns, Sides { port: None, ..both }),
+        ["--program", _] => (run_program, Sides { port: None, ..both }),
+        ["--input", _, _] => (print_input, both),
         ["--random-rust", _, _, ..] => (random_scripts, Sides { port: None, ..both }),
         [file] if !file.starts_with("--") => (script, both),
         _ => return fault(USAGE),
     };
-    if RUST.is_none() && !["--port", DEMAND3, "--cases"].contains(&words[0]) {
-        return fault("the Rust source is missing: only --port, --demand3 and --cases work");
+    if RUST.is_none() && !["--port", DEMAND3, "--cases", "--input"].contains(&words[0]) {
+        return fault("the Rust source is missing: only --port, --demand3, --cases and --input work");
     }
     run(sides, &words)
 }
@@ -219,6 +229,69 @@ fn print_case_answers(sides: Sides, words: &[&str]) -> ExitCode {
     }
     other_forms().iter().for_each(|_| println!("?"));
     ExitCode::SUCCESS
+}
+
+/// FILE.
+fn print_columns(sides: Sides, words: &[&str]) -> ExitCode {
+    let input = match std::fs::read(words[1]) {
+        Ok(input) => input,
+        Err(error) => return fault(&format!("{}: {error}", words[1])),
+    };
+    match columns::answers(sides, &input) {
+        Ok(answers) => written(&answers.text),
+        Err(difference) => {
+            print!("{difference}");
+            ExitCode::from(1)
+        }
+    }
+}
+
+/// SEED. A run without a call, or without a line of another form, compares nothing and fails.
+fn run_program(sides: Sides, words: &[&str]) -> ExitCode {
+    let Ok(seed) = words[1].parse() else { return fault(USAGE) };
+    let Ok(program) = std::env::var("WAL_PROGRAM") else { return fault("WAL_PROGRAM names no program") };
+    let (mut runs, mut lines, mut calls) = (0, 0, 0);
+    for input in inputs(seed) {
+        let answers = match columns::answers(sides, &input.bytes) {
+            Ok(answers) => answers,
+            Err(difference) => {
+                print!("{difference}");
+                return ExitCode::from(1);
+            }
+        };
+        if let Err(wrong) = program::check(&program, &input, &answers.text) {
+            println!("difference at: {}, {wrong}", input.name);
+            return ExitCode::from(1);
+        }
+        runs += 1;
+        lines += answers.lines;
+        calls += answers.calls;
+    }
+    if calls == 0 || lines == calls {
+        return fault("no call or no other form was compared");
+    }
+    println!("program: {seed}, {runs} inputs, {lines} lines, {calls} calls, no difference");
+    ExitCode::SUCCESS
+}
+
+/// SEED NAME.
+fn print_input(_: Sides, words: &[&str]) -> ExitCode {
+    let Ok(seed) = words[1].parse() else { return fault(USAGE) };
+    let inputs = inputs(seed);
+    match inputs.iter().find(|input| input.name == words[2]) {
+        Some(input) => written(&input.bytes),
+        None => {
+            let names: Vec<&str> = inputs.iter().map(|input| &input.name[..]).collect();
+            fault(&format!("no such input; there are: {}", names.join(", ")))
+        }
+    }
+}
+
+fn written(bytes: &[u8]) -> ExitCode {
+    match std::io::stdout().write_all(bytes) {
+        Ok(()) => ExitCode::SUCCESS,
+        Err(error) => fault(&error.to_string()),
+    }
 }
 
 fn told(found: &Found) -> ExitCode {

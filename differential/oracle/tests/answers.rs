@@ -1,5 +1,6 @@
 //! The Rust's answers on scripts worked out by hand from document 01.
 
+use calls::columns;
 use calls::random::{self, Wanted};
 use calls::script::Line;
 use calls::session::{Session, Sides};
@@ -36,6 +37,24 @@ fn the_sample_and_the_table_of_cases() {
          list 0 3 2 0 => list 0
          rollback 0 2 => kept 2
          list 0 1 9 9 => list 2 7:1 8199:2",
+    );
+}
+
+/// The sample of document 01, a last line without its newline, a line of another form, a refusal and blanks for none.
+#[test]
+fn the_sample_in_columns() {
+    let sample = "R           7           1\nR        8199           2\nR           7           3\n\
+        F           7           1           2\nB           2\nL           1           9";
+    let answers = "R  0           1\nR  0           1\nR  0           1\nF  0           1\nB  0           2\n\
+        L  0           2\n-           7           1\n-        8199           2\n";
+    let answered = |input: &str| {
+        let answers = columns::answers(RUST, input.as_bytes()).unwrap_or_else(|difference| panic!("{difference}"));
+        String::from_utf8(answers.text).expect("answers are ASCII")
+    };
+    assert_eq!(answered(sample), answers);
+    assert_eq!(
+        answered(&format!("{sample}\n\nR           7           2\nF           9           0           9\n")),
+        format!("{answers}?\nR  3            \nF  0            \n")
     );
 }
 

@@ -1,5 +1,5 @@
--- `columns::field::digits_from` reads what the definition says: the digits that are left decide the rest. A number of at most 11 digits fits. Assumes nothing.
-use Rattle.columns.proofs.Fields.{none-below, more-below, ten-digits, digit-low, digit-high, digit-taken, digits-done}
+-- `columns::field::digits_from` reads what the definition says: the digits that are left decide the rest. A number of at most 12 digits fits. Assumes nothing.
+use Rattle.columns.proofs.Fields.{none-below, more-below, eleven-digits, digit-low, digit-high, digit-taken, digits-done}
 use Rattle.columns.specs.Field.{digits-after}
 use lib.ListN.{length, drop}
 use mathlib.Core.Path.{_≡_, refl}
@@ -32,13 +32,13 @@ returns-2 : tie.Need-returns-2 Inv-loop μ-loop
 returns-2 c = digit-high _ _ _ _ (c .before .before .before .before .loop .inv .3) (c .before .before .before .loop-test .taken) (c .before .if1 .left) (c .if2 .taken)
 
 mul-n : tie.Need-mul-n Inv-loop μ-loop
-mul-n c = omega (arith, ten-digits _ _ _ (omega arith) (c .before .before .before .before .loop .inv .2))
+mul-n c = omega (arith, eleven-digits _ _ _ (omega arith) (c .before .before .before .before .loop .inv .2))
 
 wide-requires : tie.Need-wide-requires Inv-loop μ-loop
 wide-requires c κs = search needs
 
 add-n : tie.Need-add-n Inv-loop μ-loop
-add-n c = omega (arith, ten-digits _ _ _ (omega arith) (c .before .before .before .before .before .loop .inv .2))
+add-n c = omega (arith, eleven-digits _ _ _ (omega arith) (c .before .before .before .before .before .loop .inv .2))
 
 loop-less : tie.Need-loop-less Inv-loop μ-loop
 loop-less c = omega arith

@@ -9,19 +9,19 @@ use Rattle.columns.proofs.field.first_digit.Statement.{statement}
 use Rattle.columns.proofs.field.first_digit.Tie as tie
 
 abbrev Inv-loop : tie.InvT-loop
-Inv-loop field i₀ i = (1 ≤ i) × (i ≤ length field) × (after-blanks (drop i field) ≡ after-blanks (drop 1 field))
+Inv-loop field i₀ i = (i ≤ length field) × (after-blanks (drop i field) ≡ after-blanks field)
 
 abbrev μ-loop : tie.MeasureT-loop
 μ-loop field i₀ i = length field - i
 
 loop-holds : tie.Need-loop-holds Inv-loop μ-loop
-loop-holds c = (omega arith, omega arith, refl)
+loop-holds c = (omega arith, refl)
 
 shared-slice-read-if1 : tie.Need-shared-slice-read-if1 Inv-loop μ-loop
 shared-slice-read-if1 c = omega arith
 
 returns : tie.Need-returns Inv-loop μ-loop
-returns c = ((omega arith, omega arith), blanks-done _ _ _ (c .before .before .before .loop .inv .2) (c .before .before .loop-test .taken) (c .if1 .taken))
+returns c = (omega arith, blanks-done _ _ _ (c .before .before .before .loop .inv .1) (c .before .before .loop-test .taken) (c .if1 .taken))
 
 add-i : tie.Need-add-i Inv-loop μ-loop
 add-i c = omega arith
@@ -30,10 +30,10 @@ loop-less : tie.Need-loop-less Inv-loop μ-loop
 loop-less c = omega arith
 
 loop-again : tie.Need-loop-again Inv-loop μ-loop
-loop-again c = (omega arith, omega arith, blank-taken _ _ _ (c .before .before .before .loop .inv .2) (c .before .before .loop-test .taken) (c .if1 .left))
+loop-again c = (omega arith, blank-taken _ _ _ (c .before .before .before .loop .inv .1) (c .before .before .loop-test .taken) (c .if1 .left))
 
 returns-2 : tie.Need-returns-2 Inv-loop μ-loop
-returns-2 c = ((omega arith, omega arith), only-blanks (c .before .before .args .field .now) (c .before .loop .i) _ (c .before .loop .inv .2) (omega arith))
+returns-2 c = (omega arith, only-blanks (c .before .before .args .field .now) (c .before .loop .i) _ (c .before .loop .inv .1) (omega arith))
 
 pub first-digit-spec : {M : Type 1} → statement M
 first-digit-spec =

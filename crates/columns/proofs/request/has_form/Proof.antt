@@ -1,4 +1,4 @@
--- `columns::request::has_form`: the length, the letter and the newline, one after the other. Assumes nothing.
+-- `columns::request::has_form`: the length, then the letter. Assumes nothing.
 use borrow.Author.Tests.{eq-eqb, ne-eqb}
 use borrow.Author.Needs.{needs}
 use Rattle.columns.proofs.request.has_form.Statement.{statement}
@@ -13,23 +13,11 @@ add-if1 c = search needs
 returns : tie.Need-returns
 returns c = rw (ne-eqb _ _ (c .if1 .taken))
 
-shared-slice-read-if2 : tie.Need-shared-slice-read-if2
-shared-slice-read-if2 c = search needs
-
-returns-2 : tie.Need-returns-2
-returns-2 c = rw (eq-eqb _ _ (c .before .before .if1 .left), ne-eqb _ _ (c .if2 .taken))
-
-mul-result : tie.Need-mul-result
-mul-result c = search needs
-
-add-result : tie.Need-add-result
-add-result c = search needs
-
 shared-slice-read-result : tie.Need-shared-slice-read-result
 shared-slice-read-result c = search needs
 
-returns-3 : tie.Need-returns-3
-returns-3 c = rw (eq-eqb _ _ (c .before .before .before .if1 .left), eq-eqb _ _ (c .before .if2 .left))
+returns-2 : tie.Need-returns-2
+returns-2 c = rw (eq-eqb _ _ (c .before .if1 .left))
 
 pub has-form-spec : {M : Type 1} → statement M
 has-form-spec =
@@ -38,9 +26,5 @@ has-form-spec =
     mul-if1
     add-if1
     returns
-    shared-slice-read-if2
-    returns-2
-    mul-result
-    add-result
     shared-slice-read-result
-    returns-3)
+    returns-2)

@@ -10,7 +10,7 @@ has-form-requires : tie.Need-has-form-requires
 has-form-requires c κs = search needs
 
 record-request-requires : tie.Need-record-request-requires
-record-request-requires c κs = form-length (c .before .before .before .args .line .now) 82 2 (sym (c .before .has-form .ensures) ∙ c .if1 .taken)
+record-request-requires c κs = form-length (c .before .before .before .args .line .now) _ 2 (sym (c .before .has-form .ensures) ∙ c .if1 .taken)
 
 returns : tie.Need-returns
 unfolding request-of
@@ -20,7 +20,7 @@ has-form-requires-2 : tie.Need-has-form-requires-2
 has-form-requires-2 c κs = search needs
 
 rollback-request-requires : tie.Need-rollback-request-requires
-rollback-request-requires c κs = form-length (c .before .before .before .before .before .args .line .now) 66 1 (sym (c .before .has-form2 .ensures) ∙ c .if2 .taken)
+rollback-request-requires c κs = form-length (c .before .before .before .before .before .args .line .now) _ 1 (sym (c .before .has-form2 .ensures) ∙ c .if2 .taken)
 
 returns-2 : tie.Need-returns-2
 unfolding request-of
@@ -30,7 +30,7 @@ has-form-requires-3 : tie.Need-has-form-requires-3
 has-form-requires-3 c κs = search needs
 
 find-request-requires : tie.Need-find-request-requires
-find-request-requires c κs = form-length (c .before .before .before .before .before .before .before .args .line .now) 70 3 (sym (c .before .has-form3 .ensures) ∙ c .if3 .taken)
+find-request-requires c κs = form-length (c .before .before .before .before .before .before .before .args .line .now) _ 3 (sym (c .before .has-form3 .ensures) ∙ c .if3 .taken)
 
 returns-3 : tie.Need-returns-3
 unfolding request-of
@@ -40,7 +40,7 @@ has-form-requires-4 : tie.Need-has-form-requires-4
 has-form-requires-4 c κs = search needs
 
 list-request-requires : tie.Need-list-request-requires
-list-request-requires c κs = form-length (c .before .before .before .before .before .before .before .before .before .args .line .now) 76 2 (sym (c .before .has-form4 .ensures) ∙ c .if4 .taken)
+list-request-requires c κs = form-length (c .before .before .before .before .before .before .before .before .before .args .line .now) _ 2 (sym (c .before .has-form4 .ensures) ∙ c .if4 .taken)
 
 returns-4 : tie.Need-returns-4
 unfolding request-of

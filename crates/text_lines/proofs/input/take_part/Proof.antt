@@ -22,9 +22,6 @@ byte-at-requires c κs = search needs
 add-at : tie.Need-add-at Inv-loop μ-loop
 add-at c = omega arith
 
-put-requires : tie.Need-put-requires Inv-loop μ-loop
-put-requires c κs = search needs
-
 with-line-requires : tie.Need-with-line-requires Inv-loop μ-loop
 with-line-requires c κs = search needs
 
@@ -33,6 +30,9 @@ same-length c = search needs
 
 returns : tie.Need-returns Inv-loop μ-loop
 returns c = search needs
+
+put-requires : tie.Need-put-requires Inv-loop μ-loop
+put-requires c κs = search needs
 
 loop-less : tie.Need-loop-less Inv-loop μ-loop
 loop-less c = omega arith
@@ -58,10 +58,10 @@ take-part-spec =
     loop-holds
     byte-at-requires
     add-at
-    put-requires
     with-line-requires
     same-length
     returns
+    put-requires
     loop-less
     loop-again
     with-line-requires-2
