@@ -45,10 +45,10 @@ fn share_refusal(
     reader_owners: usize,
     local_readers: usize,
     records: usize,
-    owner: u64,
+    owner: SharedOwnerRecord,
     mark: u64,
 ) -> u32
-    ensures { λ r. ⌜ r ≡ share-refusal n bitmap «reader_frames» «reader_owners» «local_readers» records owner mark ⌝ }
+    ensures { λ r. ⌜ r ≡ share-refusal n bitmap «reader_frames» «reader_owners» «local_readers» records (owner .0) mark ⌝ }
 {
     let refusal = slots::slots_refusal(n, bitmap, reader_frames, reader_owners, local_readers);
     if refusal != 0 {
@@ -57,7 +57,7 @@ fn share_refusal(
     if records < n {
         return 2;
     }
-    if owner == UNOWNED_LOCK {
+    if owner.0 == UNOWNED_LOCK {
         return 9;
     }
     if mark == UNUSED_READER_FRAME {
@@ -67,13 +67,19 @@ fn share_refusal(
 }
 
 // A slot that is reclaimed: its bit 0, not held here, granted, and in ProcessScopedFcntl mode with an owner.
-fn is_stale(mode: SharedWalOwnershipMode, bit: u64, owner: u64, local_owner: u64, card: u8) -> bool
-    ensures { λ r. ⌜ r ≡ stale-cell mode bit owner «local_owner» card ⌝ }
+fn is_stale(
+    mode: SharedWalOwnershipMode,
+    bit: u64,
+    owner: SharedOwnerRecord,
+    local_owner: SharedOwnerRecord,
+    card: u8,
+) -> bool
+    ensures { λ r. ⌜ r ≡ stale-cell mode bit (owner .0) («local_owner» .0) card ⌝ }
 {
     if bit == 1 {
         return false;
     }
-    if local_owner != 0 {
+    if local_owner.0 != 0 {
         return false;
     }
     if card != 1 {
@@ -102,8 +108,8 @@ fn some_stale(
         if is_stale(
             mode,
             bit,
-            reader_owners[slot],
-            local_readers[slot],
+            SharedOwnerRecord(reader_owners[slot]),
+            SharedOwnerRecord(local_readers[slot]),
             card[slot],
         ) {
             return true;
@@ -133,7 +139,9 @@ fn without_record(
     Share::NoSlot
 }
 
-// A shared registration, but for the store of its record.
+// A shared registration, but for the store of its record. The registry is not lent: the contract holds for every registry with
+// so many records in whose first n a scan for the mark sees what seen has. Of arguments that fit no registry (a record seen in
+// place 3 of 2 records) it says nothing.
 pub fn share_plan(
     n: usize,
     mode: SharedWalOwnershipMode,
@@ -159,7 +167,7 @@ pub fn share_plan(
         reader_owners.len(),
         local_readers.len(),
         records,
-        owner.0,
+        owner,
         mark,
     );
     if refusal != 0 {
@@ -257,10 +265,10 @@ fn with_holder_less(item: SharedReadMark) -> SharedReadMark
 }
 
 // Refusal 9, 10 or 12, by the owner, the mark and whether both are registered; 0 for none of them.
-fn mark_refusal(owner: u64, mark: u64, registered: bool) -> u32
-    ensures { λ r. ⌜ r ≡ mark-refusal owner mark registered ⌝ }
+fn mark_refusal(owner: SharedOwnerRecord, mark: u64, registered: bool) -> u32
+    ensures { λ r. ⌜ r ≡ mark-refusal (owner .0) mark registered ⌝ }
 {
-    if owner == UNOWNED_LOCK {
+    if owner.0 == UNOWNED_LOCK {
         return 9;
     }
     if mark == UNUSED_READER_FRAME {
@@ -276,19 +284,19 @@ fn mark_refusal(owner: u64, mark: u64, registered: bool) -> u32
 // local one.
 fn last_refusal(
     mode: SharedWalOwnershipMode,
-    owner: u64,
-    shared_owner: u64,
-    local_owner: u64,
+    owner: SharedOwnerRecord,
+    shared_owner: SharedOwnerRecord,
+    local_owner: SharedOwnerRecord,
 ) -> u32
-    ensures { λ r. ⌜ r ≡ last-refusal mode owner «shared_owner» «local_owner» ⌝ }
+    ensures { λ r. ⌜ r ≡ last-refusal mode (owner .0) («shared_owner» .0) («local_owner» .0) ⌝ }
 {
-    if local_owner == UNOWNED_LOCK {
+    if local_owner.0 == UNOWNED_LOCK {
         return 7;
     }
-    if owner != shared_owner {
+    if owner.0 != shared_owner.0 {
         return 8;
     }
-    if owner == local_owner {
+    if owner.0 == local_owner.0 {
         return 0;
     }
     match mode {
@@ -297,7 +305,8 @@ fn last_refusal(
     }
 }
 
-// A shared release, but for the store of its record.
+// A shared release, but for the store of its record. As in share_plan, the contract holds for every registry that seen and
+// records fit, and says nothing of arguments that fit none.
 pub fn unshare_plan(
     n: usize,
     mode: SharedWalOwnershipMode,
@@ -344,7 +353,7 @@ pub fn unshare_plan(
         };
     }
     let Record::At(found) = place else {
-        let absent = mark_refusal(owner.0, mark, false);
+        let absent = mark_refusal(owner, mark, false);
         return UnsharePlan {
             at: records,
             item: item,
@@ -352,7 +361,7 @@ pub fn unshare_plan(
         };
     };
     if item.slot as usize != slot {
-        let other = mark_refusal(owner.0, mark, false);
+        let other = mark_refusal(owner, mark, false);
         return UnsharePlan {
             at: records,
             item: item,
@@ -360,7 +369,7 @@ pub fn unshare_plan(
         };
     }
     if item.owner.0 != owner.0 {
-        let other = mark_refusal(owner.0, mark, false);
+        let other = mark_refusal(owner, mark, false);
         return UnsharePlan {
             at: records,
             item: item,
@@ -368,7 +377,7 @@ pub fn unshare_plan(
         };
     }
     let less = with_holder_less(item);
-    let by_mark = mark_refusal(owner.0, mark, true);
+    let by_mark = mark_refusal(owner, mark, true);
     if item.holders != 1 {
         if by_mark != 0 {
             return UnsharePlan {
@@ -383,7 +392,12 @@ pub fn unshare_plan(
             answer: Release::Released,
         };
     }
-    let by_slot = last_refusal(mode, owner.0, reader_owners[slot], local_readers[slot]);
+    let by_slot = last_refusal(
+        mode,
+        owner,
+        SharedOwnerRecord(reader_owners[slot]),
+        SharedOwnerRecord(local_readers[slot]),
+    );
     if by_slot != 0 {
         return UnsharePlan {
             at: records,

@@ -56,17 +56,17 @@ returns-7 c = unshare-kept-refused _ _ _ _ _ _ _ _ _ _ (c .before .before .befor
 returns-8 : tie.Need-returns-8
 returns-8 c = unshare-kept _ _ _ _ _ _ _ _ _ _ (c .before .before .before .before .before .before .before .before .before .before .before .before .before .before .before .before .before .before .before .before .before .before .args .seen) _ (c .before .before .before .before .before .before .before .before .before .before .before .before .before .before .before .before .slots-refusal .ensures) (c .before .before .before .before .before .before .before .before .before .before .before .before .before .before .before .if1 .left) (c .before .before .before .before .before .before .before .before .before .before .before .before .before .before .if2 .left) (c .before .before .before .before .before .before .before .before .before .before .before .before .before .if3 .left) _ (c .before .before .before .before .before .before .before .before .before .before .before .place .given .1) (c .before .before .before .before .before .before .before .before .if4 .left) (c .before .before .before .before .before .if5 .left) _ (c .before .before .before .mark-refusal4 .ensures) (c .before .if6 .taken) (c .if7 .left) _ (c .before .before .before .before .with-holder-less .ensures)
 
-mul-last-refusal : tie.Need-mul-last-refusal
-mul-last-refusal c = let h = enough _ _ _ _ _ _ (c .before .before .before .before .before .before .before .before .before .before .before .before .before .before .before .slots-refusal .ensures) (c .before .before .before .before .before .before .before .before .before .before .before .before .before .before .if1 .left) in omega arith
+mul-t23 : tie.Need-mul-t23
+mul-t23 c = let h = enough _ _ _ _ _ _ (c .before .before .before .before .before .before .before .before .before .before .before .before .before .before .before .slots-refusal .ensures) (c .before .before .before .before .before .before .before .before .before .before .before .before .before .before .if1 .left) in omega arith
 
-slice-read-last-refusal : tie.Need-slice-read-last-refusal
-slice-read-last-refusal c = let h = enough _ _ _ _ _ _ (c .before .before .before .before .before .before .before .before .before .before .before .before .before .before .before .before .slots-refusal .ensures) (c .before .before .before .before .before .before .before .before .before .before .before .before .before .before .before .if1 .left) in omega arith
+slice-read-t37 : tie.Need-slice-read-t37
+slice-read-t37 c = let h = enough _ _ _ _ _ _ (c .before .before .before .before .before .before .before .before .before .before .before .before .before .before .before .before .slots-refusal .ensures) (c .before .before .before .before .before .before .before .before .before .before .before .before .before .before .before .if1 .left) in omega arith
 
-mul-last-refusal-2 : tie.Need-mul-last-refusal-2
-mul-last-refusal-2 c = let h = enough _ _ _ _ _ _ (c .before .before .before .before .before .before .before .before .before .before .before .before .before .before .before .before .slots-refusal .ensures) (c .before .before .before .before .before .before .before .before .before .before .before .before .before .before .before .if1 .left) in omega arith
+mul-t24 : tie.Need-mul-t24
+mul-t24 c = let h = enough _ _ _ _ _ _ (c .before .before .before .before .before .before .before .before .before .before .before .before .before .before .before .before .slots-refusal .ensures) (c .before .before .before .before .before .before .before .before .before .before .before .before .before .before .before .if1 .left) in omega arith
 
-slice-read-last-refusal-2 : tie.Need-slice-read-last-refusal-2
-slice-read-last-refusal-2 c = let h = enough _ _ _ _ _ _ (c .before .before .before .before .before .before .before .before .before .before .before .before .before .before .before .before .before .slots-refusal .ensures) (c .before .before .before .before .before .before .before .before .before .before .before .before .before .before .before .before .if1 .left) in omega arith
+slice-read-t40 : tie.Need-slice-read-t40
+slice-read-t40 c = let h = enough _ _ _ _ _ _ (c .before .before .before .before .before .before .before .before .before .before .before .before .before .before .before .before .before .slots-refusal .ensures) (c .before .before .before .before .before .before .before .before .before .before .before .before .before .before .before .before .if1 .left) in omega arith
 
 last-refusal-requires : tie.Need-last-refusal-requires
 last-refusal-requires c κs = search needs
@@ -116,10 +116,10 @@ unshare-plan-spec =
     mark-refusal-requires-4
     returns-7
     returns-8
-    mul-last-refusal
-    slice-read-last-refusal
-    mul-last-refusal-2
-    slice-read-last-refusal-2
+    mul-t23
+    slice-read-t37
+    mul-t24
+    slice-read-t40
     last-refusal-requires
     returns-9
     returns-10
