@@ -29,9 +29,9 @@ pub enum Release {
     Refused(u32),
 }
 
-// Moves a reader to another mark. The registry is not lent: the contract holds for every registry with registry_len records
-// of which one of the first n is in use for the slot if in_registry says so, and only then. Of arguments that fit no registry
-// (in_registry with a registry_len of 0) it says nothing.
+// Moves a reader to another mark. The registry is not lent: the contract holds for every registry that has registry_len
+// records and, in its first n, one in use for the slot if in_registry says so, and only then. Of arguments that fit no
+// registry (in_registry with a registry_len of 0) it says nothing.
 pub fn update_core(
     n: usize,
     reader_frames: &mut [u64],
@@ -112,8 +112,8 @@ pub fn release_slot(
     local_readers[slot] = UNOWNED_LOCK;
 }
 
-// Releases a reader's slot. As in update_core, the contract holds for every registry that in_registry and registry_len fit, and
-// says nothing of arguments that fit none.
+// Releases a reader's slot. As in update_core, the contract holds for every registry that in_registry and registry_len
+// fit, and says nothing of arguments that fit none.
 pub fn unregister_core(
     n: usize,
     mode: SharedWalOwnershipMode,
