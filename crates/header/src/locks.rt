@@ -29,17 +29,17 @@ pub enum Release {
 }
 
 // The header with an owner in the lock's shared cell.
-fn with_owner(lock: Lock, header: Header, owner: u64) -> Header
-    ensures { λ r. ⌜ r ≡ header-with (owner-cell lock) owner header ⌝ }
+fn with_owner(lock: Lock, header: Header, owner: SharedOwnerRecord) -> Header
+    ensures { λ r. ⌜ r ≡ header-with (owner-cell lock) (owner .0) header ⌝ }
 {
     let mut next = header;
     match lock {
         Lock::Writer => {
-            next.writer_owner = owner;
+            next.writer_owner = owner.0;
             next
         }
         Lock::Checkpoint => {
-            next.checkpoint_owner = owner;
+            next.checkpoint_owner = owner.0;
             next
         }
     }
@@ -66,7 +66,7 @@ fn acquire_lock(
     if card != 1 {
         return Acquire::Busy;
     }
-    Acquire::Taken(with_owner(lock, header, owner.0), owner)
+    Acquire::Taken(with_owner(lock, header, owner), owner)
 }
 
 // Whether a release is by another than the local owner. LinuxOfd does not compare owners.
@@ -101,7 +101,8 @@ fn release_lock(
     if owner.0 == 0 {
         return Release::Refused(9);
     }
-    Release::Released(with_owner(lock, header, 0), SharedOwnerRecord(0))
+    let nobody = SharedOwnerRecord(0);
+    Release::Released(with_owner(lock, header, nobody), nobody)
 }
 
 // Attempts to take the writer lock.

@@ -1,3 +1,4 @@
 -- Laws of the replies.
 mod IndexStores
 mod IndexReplies
+mod NoFrame

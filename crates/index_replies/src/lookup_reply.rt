@@ -23,22 +23,24 @@ pub struct ListReply {
 pub fn looked_up(answer: Found) -> FindReply
     ensures { λ r. ⌜ r ≡ find-reply answer ⌝ }
 {
-    match answer {
-        Found::Frame(frame) => FindReply {
-            refusal: 0,
-            found: 1,
-            frame: frame,
-        },
-        Found::NoFrame => FindReply {
-            refusal: 0,
-            found: 0,
-            frame: 0,
-        },
-        Found::Refused(number) => FindReply {
+    let Found::Frame(frame) = answer else {
+        let Found::Refused(number) = answer else {
+            return FindReply {
+                refusal: 0,
+                found: 0,
+                frame: 0,
+            };
+        };
+        return FindReply {
             refusal: number,
             found: 0,
             frame: 0,
-        },
+        };
+    };
+    FindReply {
+        refusal: 0,
+        found: 1,
+        frame: frame,
     }
 }
 

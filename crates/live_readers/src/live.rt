@@ -1,6 +1,7 @@
 // One slot, as the floor and has_active_db_file_reader meet it: skipped, live, or dead and then reclaimed.
 use reader_slots::slots;
 use wal_types::DB_FILE_READER_FRAME;
+use wal_types::SharedOwnerRecord;
 use wal_types::SharedWalOwnershipMode;
 use wal_types::UNUSED_READER_FRAME;
 ghost use mathlib.Core.Path.{_≡_};
@@ -23,8 +24,8 @@ pub enum LiveFrame {
 }
 
 // A slot without a reader: frame UNUSED, or in ProcessScopedFcntl mode no owner.
-pub fn is_skipped(mode: SharedWalOwnershipMode, frame: u64, owner: u64) -> bool
-    ensures { λ r. ⌜ r ≡ skipped-cell mode frame owner ⌝ }
+pub fn is_skipped(mode: SharedWalOwnershipMode, frame: u64, owner: SharedOwnerRecord) -> bool
+    ensures { λ r. ⌜ r ≡ skipped-cell mode frame (owner .0) ⌝ }
 {
     if frame == UNUSED_READER_FRAME {
         return true;
@@ -46,7 +47,7 @@ pub fn live_reader_frame(
     ensures { λ r. ⌜ (r ≡ live-frame (live-by mode (now (card .entry)) (now («reader_frames» .entry)) (now («reader_owners» .entry)) (now («local_readers» .entry)) slot) (getD (now («reader_frames» .entry)) slot 0)) × SlotsBecome (λ m p. emptied-if mode (dead mode (now (card .entry)) p m slot) slot m) (now (bitmap .entry)) (now («reader_frames» .entry)) (now («reader_owners» .entry)) (now («local_readers» .entry)) (now (bitmap .exit)) (now («reader_frames» .exit)) (now («reader_owners» .exit)) ⌝ }
 {
     let frame = reader_frames[slot];
-    if is_skipped(mode, frame, reader_owners[slot]) {
+    if is_skipped(mode, frame, SharedOwnerRecord(reader_owners[slot])) {
         return LiveFrame::NotLive;
     }
     if local_readers[slot] != 0 {

@@ -2,6 +2,7 @@
 use crate::live;
 use reader_slots::slots;
 use wal_types::DB_FILE_READER_FRAME;
+use wal_types::SharedOwnerRecord;
 use wal_types::SharedWalOwnershipMode;
 ghost use mathlib.Core.Path.{_≡_};
 ghost use Prim.Native.Nat.{_≤_};
@@ -14,11 +15,11 @@ ghost use Rattle.live_readers.specs.Inner.{failed-cell, db-file-cell, fa
 fn is_failed(
     mode: SharedWalOwnershipMode,
     frame: u64,
-    owner: u64,
-    local_owner: u64,
+    owner: SharedOwnerRecord,
+    local_owner: SharedOwnerRecord,
     card: u8,
 ) -> bool
-    ensures { λ r. ⌜ r ≡ failed-cell mode frame owner «local_owner» card ⌝ }
+    ensures { λ r. ⌜ r ≡ failed-cell mode frame (owner .0) («local_owner» .0) card ⌝ }
 {
     if slots::is_fcntl(mode) {
         return false;
@@ -26,7 +27,7 @@ fn is_failed(
     if live::is_skipped(mode, frame, owner) {
         return false;
     }
-    if local_owner != 0 {
+    if local_owner.0 != 0 {
         return false;
     }
     card == 2
@@ -48,8 +49,8 @@ fn some_probe_failed(
         if is_failed(
             mode,
             reader_frames[slot],
-            reader_owners[slot],
-            local_readers[slot],
+            SharedOwnerRecord(reader_owners[slot]),
+            SharedOwnerRecord(local_readers[slot]),
             card[slot],
         ) {
             return true;
@@ -62,11 +63,11 @@ fn some_probe_failed(
 fn is_db_file_slot(
     mode: SharedWalOwnershipMode,
     frame: u64,
-    owner: u64,
-    local_owner: u64,
+    owner: SharedOwnerRecord,
+    local_owner: SharedOwnerRecord,
     card: u8,
 ) -> bool
-    ensures { λ r. ⌜ r ≡ db-file-cell mode frame owner «local_owner» card ⌝ }
+    ensures { λ r. ⌜ r ≡ db-file-cell mode frame (owner .0) («local_owner» .0) card ⌝ }
 {
     if live::is_skipped(mode, frame, owner) {
         return false;
@@ -77,7 +78,7 @@ fn is_db_file_slot(
     if frame != DB_FILE_READER_FRAME {
         return false;
     }
-    if local_owner != 0 {
+    if local_owner.0 != 0 {
         return true;
     }
     card != 1
@@ -99,8 +100,8 @@ fn slots_looked_at(
         if is_db_file_slot(
             mode,
             reader_frames[slot],
-            reader_owners[slot],
-            local_readers[slot],
+            SharedOwnerRecord(reader_owners[slot]),
+            SharedOwnerRecord(local_readers[slot]),
             card[slot],
         ) {
             return slot;

@@ -1,3 +1,4 @@
--- Laws of records that are wanted, and of scans for them.
+-- Laws of records that are wanted, of scans for them, and the walk of a function that changes one record.
 pub mod Picked
 pub mod Scan
+mod Changes

@@ -5,10 +5,10 @@ use wal_types::SharedReadMark;
 ghost use mathlib.Core.Path.{_≡_};
 ghost use mathlib.Core.Bool.{_&&_, cond};
 ghost use Prim.Native.Nat.{min};
-ghost use lib.ListN.{length, set};
+ghost use lib.ListN.{length};
 ghost use Rattle.reader_slots.specs.Slots.{in-registry};
 ghost use Rattle.mark_registry.specs.declared.Wanted.the-variants.{Mark, Slot, Empty};
-ghost use Rattle.mark_registry.specs.Registry.{is-empty};
+ghost use Rattle.mark_registry.specs.Registry.{is-empty, one-less, one-more-below, first-held, retained, published, released};
 ghost use Rattle.mark_registry.specs.Scan.{picks, wants-use, none-picked, nothing-found, found-here, found-of, is-found, seen-alone, seen-with, seen-of};
 
 // A record of the registry found, or none.
@@ -233,11 +233,69 @@ pub fn slot_is_shared(registry: &[SharedReadMark], n: usize, slot: usize) -> boo
     is_found(found.place)
 }
 
-// Stores one record. Past the end nothing is written.
-pub fn store_record(registry: &mut [SharedReadMark], i: usize, m: SharedReadMark)
-    ensures { λ _. ⌜ now (registry .exit) ≡ set (now (registry .entry)) i m ⌝ }
+// A record with a holder more. One with 65,535 holders or more stays as it is.
+fn with_holder_more(m: SharedReadMark) -> SharedReadMark
+    ensures { λ r. ⌜ r ≡ one-more-below m ⌝ }
 {
-    if i < registry.len() {
-        registry[i] = m;
+    let mut next = m;
+    if m.holders < 65535 {
+        next.holders = m.holders + 1;
+    }
+    next
+}
+
+// A record with a holder less. With 0 holders left it is empty.
+fn with_holder_less(m: SharedReadMark) -> SharedReadMark
+    ensures { λ r. ⌜ r ≡ one-less m ⌝ }
+{
+    let mut next = m;
+    if 0 < m.holders {
+        next.holders = m.holders - 1;
+    }
+    next
+}
+
+// A new record, with its first holder.
+fn first_held(mark: u64, slot: u32, owner: SharedOwnerRecord) -> SharedReadMark
+    ensures { λ r. ⌜ r ≡ first-held mark slot owner ⌝ }
+{
+    SharedReadMark {
+        mark: mark,
+        slot: slot,
+        owner: owner,
+        holders: 1,
+    }
+}
+
+// A connection more shares the mark of a record. Past the end nothing is written.
+pub fn retain_shared_snapshot_reader(registry: &mut [SharedReadMark], at: usize)
+    ensures { λ _. ⌜ now (registry .exit) ≡ retained at (now (registry .entry)) ⌝ }
+{
+    if at < registry.len() {
+        registry[at] = with_holder_more(registry[at]);
+    }
+}
+
+// A new mark for connections to share, in an empty record. Past the end nothing is written.
+pub fn publish_shared_snapshot_reader(
+    registry: &mut [SharedReadMark],
+    at: usize,
+    mark: u64,
+    slot: u32,
+    owner: SharedOwnerRecord,
+)
+    ensures { λ _. ⌜ now (registry .exit) ≡ published at mark slot owner (now (registry .entry)) ⌝ }
+{
+    if at < registry.len() {
+        registry[at] = first_held(mark, slot, owner);
+    }
+}
+
+// A connection less shares the mark of a record. Past the end nothing is written.
+pub fn release_shared_snapshot_reader(registry: &mut [SharedReadMark], at: usize)
+    ensures { λ _. ⌜ now (registry .exit) ≡ released at (now (registry .entry)) ⌝ }
+{
+    if at < registry.len() {
+        registry[at] = with_holder_less(registry[at]);
     }
 }

@@ -35,6 +35,7 @@ pub extern "C" fn wal_register_reader(
 ) -> ReaderReply
     ensures { λ r. ⌜ SlotsReplied reader-reply (with-mode (mode-given mode) (λ given. register-reader n given owner mark (now (card .entry)))) (now (bitmap .entry)) (now («reader_frames» .entry)) (now («reader_owners» .entry)) (now («local_readers» .entry)) r (now (bitmap .exit)) (now («reader_frames» .exit)) (now («reader_owners» .exit)) (now («local_readers» .exit)) ⌝ }
 {
+    let offered = SharedOwnerRecord(owner);
     let given = reader_replies::settings_of(n, mode);
     let lock_mode = given.mode;
     let answer = register::register_reader(
@@ -45,10 +46,10 @@ pub extern "C" fn wal_register_reader(
         reader_owners,
         local_readers,
         card,
-        SharedOwnerRecord(owner),
+        offered,
         mark,
     );
-    reader_replies::register_told(answer, owner, mark)
+    reader_replies::register_told(answer, offered, mark)
 }
 
 // Moves a reader to another mark.
@@ -64,16 +65,17 @@ pub extern "C" fn wal_update_reader(
 ) -> ReaderReply
     ensures { λ r. ⌜ MoveReplied reader-reply (update-reader n slot owner mark) (now («reader_frames» .entry)) (now («reader_owners» .entry)) (now (registry .entry)) r (now («reader_frames» .exit)) ⌝ }
 {
+    let offered = SharedOwnerRecord(owner);
     let answer = direct::update_reader(
         n,
         reader_frames,
         reader_owners,
         registry,
         slot,
-        SharedOwnerRecord(owner),
+        offered,
         mark,
     );
-    reader_replies::move_told(answer, slot, owner, mark)
+    reader_replies::move_told(answer, slot, offered, mark)
 }
 
 // Releases a reader's slot. Answers 0, or the number of the refusal.

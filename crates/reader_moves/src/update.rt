@@ -29,7 +29,9 @@ pub enum Release {
     Refused(u32),
 }
 
-// Moves a reader to another mark.
+// Moves a reader to another mark. The registry is not lent: the contract holds for every registry that has registry_len
+// records and, in its first n, one in use for the slot if in_registry says so, and only then. Of arguments that fit no
+// registry (in_registry with a registry_len of 0) it says nothing.
 pub fn update_core(
     n: usize,
     reader_frames: &mut [u64],
@@ -79,18 +81,18 @@ pub fn update_core(
 // Whether a release is by another than the slot's owner. LinuxOfd does not compare the local one.
 fn by_other_owner(
     mode: SharedWalOwnershipMode,
-    owner: u64,
-    shared_owner: u64,
-    local_owner: u64,
+    owner: SharedOwnerRecord,
+    shared_owner: SharedOwnerRecord,
+    local_owner: SharedOwnerRecord,
 ) -> bool
-    ensures { λ r. ⌜ r ≡ (not (eqb owner «shared_owner») || (is-fcntl mode && not (eqb owner «local_owner»))) ⌝ }
+    ensures { λ r. ⌜ r ≡ (not (eqb (owner .0) («shared_owner» .0)) || (is-fcntl mode && not (eqb (owner .0) («local_owner» .0)))) ⌝ }
 {
-    if owner != shared_owner {
+    if owner.0 != shared_owner.0 {
         return true;
     }
     match mode {
         SharedWalOwnershipMode::LinuxOfd => false,
-        SharedWalOwnershipMode::ProcessScopedFcntl => owner != local_owner,
+        SharedWalOwnershipMode::ProcessScopedFcntl => owner.0 != local_owner.0,
     }
 }
 
@@ -110,7 +112,8 @@ pub fn release_slot(
     local_readers[slot] = UNOWNED_LOCK;
 }
 
-// Releases a reader's slot.
+// Releases a reader's slot. As in update_core, the contract holds for every registry that in_registry and registry_len
+// fit, and says nothing of arguments that fit none.
 pub fn unregister_core(
     n: usize,
     mode: SharedWalOwnershipMode,
@@ -144,7 +147,12 @@ pub fn unregister_core(
     if local_readers[slot] == UNOWNED_LOCK {
         return Release::Refused(7);
     }
-    if by_other_owner(mode, owner.0, reader_owners[slot], local_readers[slot]) {
+    if by_other_owner(
+        mode,
+        owner,
+        SharedOwnerRecord(reader_owners[slot]),
+        SharedOwnerRecord(local_readers[slot]),
+    ) {
         return Release::Refused(8);
     }
     if owner.0 == 0 {

@@ -7,6 +7,7 @@ use reader_moves::update::Update;
 use readers::register::Register;
 use replies::Mode;
 use shared_marks::shared::Share;
+use wal_types::SharedOwnerRecord;
 use wal_types::SharedWalOwnershipMode;
 ghost use mathlib.Core.Path.{_≡_};
 ghost use Rattle.wal_types.specs.Call.{slot-taken};
@@ -71,14 +72,14 @@ pub fn settings_of(n: usize, mode: u32) -> Settings
     Settings { n: n, mode: given }
 }
 
-fn with_slot(slot: u64, owner: u64, mark: u64) -> ReaderReply
-    ensures { λ r. ⌜ r ≡ reader-reply (slot-taken slot owner mark) ⌝ }
+fn with_slot(slot: u64, owner: SharedOwnerRecord, mark: u64) -> ReaderReply
+    ensures { λ r. ⌜ r ≡ reader-reply (slot-taken slot (owner .0) mark) ⌝ }
 {
     ReaderReply {
         refusal: 0,
         taken: 1,
         slot: slot,
-        owner: owner,
+        owner: owner.0,
         mark: mark,
     }
 }
@@ -96,18 +97,20 @@ fn without_slot(refusal: u32) -> ReaderReply
     }
 }
 
-pub fn register_told(answer: Register, owner: u64, mark: u64) -> ReaderReply
-    ensures { λ r. ⌜ r ≡ reader-reply (register-answer owner mark answer) ⌝ }
+pub fn register_told(answer: Register, owner: SharedOwnerRecord, mark: u64) -> ReaderReply
+    ensures { λ r. ⌜ r ≡ reader-reply (register-answer (owner .0) mark answer) ⌝ }
 {
-    match answer {
-        Register::Taken(slot) => with_slot(slot as u64, owner, mark),
-        Register::NoSlot => without_slot(0),
-        Register::Refused(number) => without_slot(number),
-    }
+    let Register::Taken(slot) = answer else {
+        let Register::Refused(number) = answer else {
+            return without_slot(0);
+        };
+        return without_slot(number);
+    };
+    with_slot(slot as u64, owner, mark)
 }
 
-pub fn move_told(answer: Update, slot: usize, owner: u64, mark: u64) -> ReaderReply
-    ensures { λ r. ⌜ r ≡ reader-reply (update-answer slot owner mark answer) ⌝ }
+pub fn move_told(answer: Update, slot: usize, owner: SharedOwnerRecord, mark: u64) -> ReaderReply
+    ensures { λ r. ⌜ r ≡ reader-reply (update-answer slot (owner .0) mark answer) ⌝ }
 {
     match answer {
         Update::Moved => with_slot(slot as u64, owner, mark),
@@ -118,11 +121,13 @@ pub fn move_told(answer: Update, slot: usize, owner: u64, mark: u64) -> ReaderRe
 pub fn share_told(answer: Share) -> ReaderReply
     ensures { λ r. ⌜ r ≡ reader-reply (share-answer answer) ⌝ }
 {
-    match answer {
-        Share::Taken(slot, owner, mark) => with_slot(slot as u64, owner.0, mark),
-        Share::NoSlot => without_slot(0),
-        Share::Refused(number) => without_slot(number),
-    }
+    let Share::Taken(slot, first, shared) = answer else {
+        let Share::Refused(refusal) = answer else {
+            return without_slot(0);
+        };
+        return without_slot(refusal);
+    };
+    with_slot(slot as u64, first, shared)
 }
 
 // 0, or the number of the refusal.
@@ -149,14 +154,16 @@ fn without_floor(refusal: u32) -> FloorReply
 pub fn floor_told(answer: MinFrame) -> FloorReply
     ensures { λ r. ⌜ r ≡ floor-reply (min-frame-answer answer) ⌝ }
 {
-    match answer {
-        MinFrame::Floor(mark) => FloorReply {
-            refusal: 0,
-            found: 1,
-            mark: mark,
-        },
-        MinFrame::NoFloor => without_floor(0),
-        MinFrame::Refused(number) => without_floor(number),
+    let MinFrame::Floor(mark) = answer else {
+        let MinFrame::Refused(number) = answer else {
+            return without_floor(0);
+        };
+        return without_floor(number);
+    };
+    FloorReply {
+        refusal: 0,
+        found: 1,
+        mark: mark,
     }
 }
 

@@ -1,5 +1,6 @@
 // The lowest slot that a reader can take at once, looked for word by word.
 use crate::slots::Slot;
+use wal_types::SharedOwnerRecord;
 ghost use mathlib.Core.Path.{_≡_};
 ghost use mathlib.Core.Bool.{_&&_, cond};
 ghost use Prim.Native.Nat.{ℕ, _+_, _-_, _/_, _<_, _≤_, min};
@@ -10,11 +11,11 @@ ghost use Rattle.reader_slots.specs.Search.{lowest-slot};
 ghost use Rattle.reader_slots.specs.Inner.{available-by, available-in, slot-of-bit};
 
 // The mask with a slot's bit set, if the slot is granted and not held here.
-fn with_granted(mask: u64, bit: u32, local_owner: u64, card: u8) -> u64
+fn with_granted(mask: u64, bit: u32, local_owner: SharedOwnerRecord, card: u8) -> u64
     requires { ⌜ bit < 64 ⌝ }
-    ensures { λ r. ⌜ r ≡ cond (eqb «local_owner» 0 && eqb card 1) (set-bit mask bit) mask ⌝ }
+    ensures { λ r. ⌜ r ≡ cond (eqb («local_owner» .0) 0 && eqb card 1) (set-bit mask bit) mask ⌝ }
 {
-    if local_owner != 0 {
+    if local_owner.0 != 0 {
         return mask;
     }
     if card != 1 {
@@ -34,7 +35,12 @@ fn available_bits(word: u64, first: usize, end: usize, local_readers: &[u64], ca
         if word & mask != 0 {
             return word & mask;
         }
-        mask = with_granted(mask, (slot - first) as u32, local_readers[slot], card[slot]);
+        mask = with_granted(
+            mask,
+            (slot - first) as u32,
+            SharedOwnerRecord(local_readers[slot]),
+            card[slot],
+        );
     }
     word & mask
 }

@@ -1,4 +1,5 @@
 // What all calls on reader slots share: the refusals 1, 2 and 14, and the emptying of one slot.
+use wal_types::SharedOwnerRecord;
 use wal_types::SharedWalOwnershipMode;
 use wal_types::UNOWNED_LOCK;
 use wal_types::UNUSED_READER_FRAME;
@@ -30,12 +31,12 @@ pub fn is_fcntl(mode: SharedWalOwnershipMode) -> bool
 }
 
 // A slot without an owner, which in ProcessScopedFcntl mode is neither reclaimed nor counted.
-pub fn is_ownerless(mode: SharedWalOwnershipMode, owner: u64) -> bool
-    ensures { λ r. ⌜ r ≡ (is-fcntl mode && eqb owner 0) ⌝ }
+pub fn is_ownerless(mode: SharedWalOwnershipMode, owner: SharedOwnerRecord) -> bool
+    ensures { λ r. ⌜ r ≡ (is-fcntl mode && eqb (owner .0) 0) ⌝ }
 {
     match mode {
         SharedWalOwnershipMode::LinuxOfd => false,
-        SharedWalOwnershipMode::ProcessScopedFcntl => owner == UNOWNED_LOCK,
+        SharedWalOwnershipMode::ProcessScopedFcntl => owner.0 == UNOWNED_LOCK,
     }
 }
 

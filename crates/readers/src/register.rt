@@ -45,7 +45,7 @@ fn try_reclaim_stale_reader_slot(
     if card[slot] != 1 {
         return;
     }
-    if slots::is_ownerless(mode, reader_owners[slot]) {
+    if slots::is_ownerless(mode, SharedOwnerRecord(reader_owners[slot])) {
         return;
     }
     slots::empty_slot(mode, bitmap, reader_frames, reader_owners, slot);
@@ -84,17 +84,17 @@ fn take_slot(
     reader_owners: &mut [u64],
     local_readers: &mut [u64],
     slot: usize,
-    owner: u64,
+    owner: SharedOwnerRecord,
     mark: u64,
 )
     requires { ⌜ (slot / 64 < length (now bitmap)) × ((slot < length (now «reader_frames»)) × ((slot < length (now «reader_owners»)) × (slot < length (now «local_readers»)))) ⌝ }
-    ensures { λ _. ⌜ SlotsBecome (λ m p. apply (take-slot slot owner mark m) m) (now (bitmap .entry)) (now («reader_frames» .entry)) (now («reader_owners» .entry)) (now («local_readers» .entry)) (now (bitmap .exit)) (now («reader_frames» .exit)) (now («reader_owners» .exit)) × (now («local_readers» .exit) ≡ set (now («local_readers» .entry)) slot owner) ⌝ }
+    ensures { λ _. ⌜ SlotsBecome (λ m p. apply (take-slot slot (owner .0) mark m) m) (now (bitmap .entry)) (now («reader_frames» .entry)) (now («reader_owners» .entry)) (now («local_readers» .entry)) (now (bitmap .exit)) (now («reader_frames» .exit)) (now («reader_owners» .exit)) × (now («local_readers» .exit) ≡ set (now («local_readers» .entry)) slot (owner .0)) ⌝ }
 {
     let word = slot / 64;
     bitmap[word] = bitmap::without_bit(bitmap[word], (slot % 64) as u32);
-    reader_owners[slot] = owner;
+    reader_owners[slot] = owner.0;
     reader_frames[slot] = mark;
-    local_readers[slot] = owner;
+    local_readers[slot] = owner.0;
 }
 
 // The slot that a reader can take: the lowest available one, or if there is none the lowest after stale slots are
@@ -176,7 +176,7 @@ pub fn register_reader(
         reader_owners,
         local_readers,
         slot,
-        owner.0,
+        owner,
         mark,
     );
     Register::Taken(slot)

@@ -77,19 +77,23 @@ fn accepted(is_some: u64, which: u64) -> Told {
 }
 
 fn slot_told(register: Register) -> Told {
-    match register {
-        Register::Taken(slot) => accepted(1, slot as u64),
-        Register::NoSlot => accepted(0, 0),
-        Register::Refused(number) => refused(number),
-    }
+    let Register::Taken(slot) = register else {
+        let Register::Refused(number) = register else {
+            return accepted(0, 0);
+        };
+        return refused(number);
+    };
+    accepted(1, slot as u64)
 }
 
 fn floor_told(floor: MinFrame) -> Told {
-    match floor {
-        MinFrame::Floor(mark) => accepted(1, mark),
-        MinFrame::NoFloor => accepted(0, 0),
-        MinFrame::Refused(number) => refused(number),
-    }
+    let MinFrame::Floor(mark) = floor else {
+        let MinFrame::Refused(number) = floor else {
+            return accepted(0, 0);
+        };
+        return refused(number);
+    };
+    accepted(1, mark)
 }
 
 fn db_file_told(reader: DbFileReader) -> Told {
@@ -138,7 +142,7 @@ fn answer(
     Row { numbers, count: 10 }
 }
 
-fn register_reader(slots: Slots, card: &[u8], owner: u64, mark: u64) -> Row {
+fn register_reader(slots: Slots, card: &[u8], owner: SharedOwnerRecord, mark: u64) -> Row {
     let mode = slots.mode;
     let mut bitmap = slots.bitmap;
     let mut frames = slots.frames;
@@ -152,7 +156,7 @@ fn register_reader(slots: Slots, card: &[u8], owner: u64, mark: u64) -> Row {
         &mut owners,
         &mut local_owners,
         card,
-        SharedOwnerRecord(owner),
+        owner,
         mark,
     );
     answer(slot_told(register), bitmap, frames, owners, local_owners)
@@ -216,7 +220,7 @@ fn copy_back_limit(slots: Slots, card: &[u8], max_frame: u64) -> Row {
 // Makes a call. What follows the card in the row is `first` and `second`.
 fn with_card(call: u64, slots: Slots, card: &[u8], first: u64, second: u64) -> Row {
     match call {
-        9 => register_reader(slots, card, first, second),
+        9 => register_reader(slots, card, SharedOwnerRecord(first), second),
         10 => min_active_reader_frame(slots, card),
         11 => has_active_db_file_reader(slots, card),
         _ => copy_back_limit(slots, card, first),

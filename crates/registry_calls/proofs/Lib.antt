@@ -1,3 +1,4 @@
--- Plans carried out, and direct calls by a process with a registry.
+-- Plans carried out, direct calls by a process with a registry, and a slice that is lent again.
 pub mod Planned
 pub mod Directed
+mod Again

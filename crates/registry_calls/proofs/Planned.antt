@@ -2,7 +2,7 @@
 use mathlib.Core.Path.{_≡_}
 use mathlib.Core.List.{List}
 use Prim.Native.Nat.{ℕ, min}
-use lib.ListN.{length, set}
+use lib.ListN.{length}
 use Rattle.wal_types.specs.declared.SharedReadMark.{SharedReadMark}
 use Rattle.wal_types.specs.Call.{Call, Answer}
 use Rattle.mark_registry.specs.declared.Seen.{Seen}
@@ -10,6 +10,6 @@ use Rattle.shared_marks.specs.Shared.{SharedCall}
 use Rattle.mark_registry.specs.Scan.{seen-of}
 use Rattle.shared_marks.specs.Inner.{PlanCall}
 
-pub planned : (n mark : ℕ) (seen : Seen) (records : ℕ) (call : Call) (b f o l : List ℕ) (a : Answer) (b′ f′ o′ l′ : List ℕ) (at : ℕ) (item : SharedReadMark) → PlanCall n mark seen records call b f o l a b′ f′ o′ l′ at item → (r : List SharedReadMark) → seen ≡ seen-of (min n (length r)) r mark → records ≡ length r → (r′ : List SharedReadMark) → r′ ≡ set r at item → SharedCall call b f o l r a b′ f′ o′ l′ r′
+pub planned : (n mark : ℕ) (seen : Seen) (records : ℕ) (call : Call) (b f o l : List ℕ) (a : Answer) (b′ f′ o′ l′ : List ℕ) (change : List SharedReadMark → List SharedReadMark) → PlanCall n mark seen records call b f o l a b′ f′ o′ l′ change → (r : List SharedReadMark) → seen ≡ seen-of (min n (length r)) r mark → records ≡ length r → (r′ : List SharedReadMark) → r′ ≡ change r → SharedCall call b f o l r a b′ f′ o′ l′ r′
 unfolding PlanCall
-planned n mark seen records call b f o l a b′ f′ o′ l′ at item plan r s q r′ e z p = rw e (plan r s q z p)
+planned n mark seen records call b f o l a b′ f′ o′ l′ change plan r s q r′ e z p = rw e (plan r s q z p)

@@ -39,7 +39,8 @@ pub fn register_reader_for_snapshot(
         owner,
         mark,
     );
-    mark_registry::store_record(registry, plan.at, plan.item);
+    mark_registry::retain_shared_snapshot_reader(registry, plan.retained);
+    mark_registry::publish_shared_snapshot_reader(registry, plan.published, mark, plan.slot, owner);
     plan.answer
 }
 
@@ -101,6 +102,6 @@ pub fn unregister_reader_for_snapshot(
         slot,
         owner,
     );
-    mark_registry::store_record(registry, plan.at, plan.item);
+    mark_registry::release_shared_snapshot_reader(registry, plan.released);
     plan.answer
 }

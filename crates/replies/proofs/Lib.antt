@@ -1,2 +1,3 @@
--- Laws of what a call leaves of the header.
+-- Laws of what a call leaves of the header, and of answers with three cases.
 pub mod Touched
+pub mod Cases

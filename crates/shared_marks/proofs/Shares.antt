@@ -6,7 +6,7 @@ use mathlib.Core.Logic.{_⊎_, inl, inr}
 use Prim.Native.Nat.{ℕ, _/_, _<_, _≤_, min}
 use native.Mathlib.Omega.{arith}
 use lib.Dec.{eqb, ltb}
-use lib.ListN.{length, getD}
+use lib.ListN.{length, getD, length-set}
 use lib.Seq.{set-out}
 use borrow.Author.Tests.{le-leb, lt-leb}
 use types.Run.{OneOf}
@@ -35,7 +35,7 @@ use Rattle.mark_registry.specs.declared.Record.the-variants.{At, Nothing}
 use Rattle.mark_registry.specs.declared.Seen.{Seen}
 use Rattle.shared_marks.specs.declared.shared.Share.{Share}
 use Rattle.shared_marks.specs.declared.shared.Share.the-variants.{NoSlot as NotTaken, Refused as NotShared}
-use Rattle.mark_registry.specs.Registry.{record-of, empty-record, one-more}
+use Rattle.mark_registry.specs.Registry.{record-of, empty-record, one-more-below, first-held, retained, published}
 use Rattle.shared_marks.specs.Shared.{no-record, no-room, share-tests, new-record, shares, register-reader-for-snapshot, share-answer, registry-in}
 use Rattle.mark_registry.specs.Scan.{item-at, seen-of}
 use Rattle.shared_marks.specs.Inner.{share-refusal, stale-by, no-record-answer, PlanCall}
@@ -110,8 +110,22 @@ unfolding seen-of
 seen-parts n r mark seen e l = let q : min n (length r) ≡ n = omega arith in rw (e, q) (refl, (refl, λ x. rw x))
 
 module _ (n : ℕ) (mode : SharedWalOwnershipMode) (owner mark : ℕ) (bytes b f o l : List ℕ) (records : ℕ) (seen : Seen) (k : ℕ) (e : k ≡ share-refusal n (length b) (length f) (length o) (length l) records owner mark) where
-  abbrev Means : Answer → List ℕ → List ℕ → List ℕ → List ℕ → ℕ → SharedReadMark → Type 0
-  Means a b′ f′ o′ l′ at item = PlanCall n mark seen records (register-reader-for-snapshot n mode owner mark bytes) b f o l a b′ f′ o′ l′ at item
+  -- the call retains the record in place i, publishes one for the slot in place j, and changes no other
+  abbrev Means : Answer → List ℕ → List ℕ → List ℕ → List ℕ → ℕ → ℕ → ℕ → Type 0
+  Means a b′ f′ o′ l′ i j slot = PlanCall n mark seen records (register-reader-for-snapshot n mode owner mark bytes) b f o l a b′ f′ o′ l′ (λ r. published j mark slot (record { 0 = owner }) (retained i r))
+
+  -- past the end nothing is retained, and nothing published
+  none-retained : (r : List SharedReadMark) → records ≡ length r → retained records r ≡ r
+  none-retained r q = set-out r records (one-more-below (getD r records no-mark)) (omega arith)
+
+  none-published : (slot : ℕ) (r : List SharedReadMark) → records ≡ length r → published records mark slot (record { 0 = owner }) r ≡ r
+  none-published slot r q = set-out r records (first-held mark slot (record { 0 = owner })) (omega arith)
+
+  unchanged : (slot : ℕ) (r : List SharedReadMark) → records ≡ length r → published records mark slot (record { 0 = owner }) (retained records r) ≡ r
+  unchanged slot r q = ap (published records mark slot (record { 0 = owner })) (none-retained r q) ∙ none-published slot r q
+
+  still-as-long : (i : ℕ) (r : List SharedReadMark) → records ≡ length r → records ≡ length (retained i r)
+  still-as-long i r q = q ∙ sym (length-set r i (one-more-below (getD r i no-mark)))
 
   -- a process and memory with these parts
   abbrev memory : Memory → Memory
@@ -131,15 +145,15 @@ module _ (n : ℕ) (mode : SharedWalOwnershipMode) (owner mark : ℕ) (bytes b f
   first-refused x z p r q =
       early-four (not (slots-in-limits n)) (shorter n (length b) (length f) (length o) (length l) || ltb (length r) n) (eqb owner 0) (eqb mark unused) (cond (full z p r) 13 (cond (bad-card n bytes) 14 0)) k (rw (← q) e) x
 
-  refused-as : (j : ℕ) (item : SharedReadMark) → ((z : Memory) (p : Process) (r : List SharedReadMark) → seen ≡ seen-of (min n (length r)) r mark → records ≡ length r → number z p r ≡ j) → (j ≡ 0 → ⊥) → Means (refused j) b f o l records item
+  refused-as : (j : ℕ) (slot : ℕ) → ((z : Memory) (p : Process) (r : List SharedReadMark) → seen ≡ seen-of (min n (length r)) r mark → records ≡ length r → number z p r ≡ j) → (j ≡ 0 → ⊥) → Means (refused j) b f o l records records slot
   unfolding PlanCall register-reader-for-snapshot
-  refused-as j item h x r s q z p =
-      rw (set-out r records item (omega arith))
+  refused-as j slot h x r s q z p =
+      rw (unchanged slot r q)
       (refuses (share-tests n mode owner mark bytes) (λ m p. shares n mode owner mark bytes (record-of n (p .registry) mark) m p) (memory z) (process p r) j (h z p r s q) x)
 
   -- refusals 1, 2, 9 and 10
-  pub share-refused : (item : SharedReadMark) → (k ≡ 0 → ⊥) → Means (refused k) b f o l records item
-  share-refused item x = refused-as k item (λ z p r s q. first-refused x z p r q) x
+  pub share-refused : (slot : ℕ) → (k ≡ 0 → ⊥) → Means (refused k) b f o l records records slot
+  share-refused slot x = refused-as k slot (λ z p r s q. first-refused x z p r q) x
 
   module _ (fine : k ≡ 0) where
     pass : Passed n (length b) (length f) (length o) (length l) records owner mark
@@ -158,26 +172,26 @@ module _ (n : ℕ) (mode : SharedWalOwnershipMode) (owner mark : ℕ) (bytes b f
       placed : (r : List SharedReadMark) → seen ≡ seen-of (min n (length r)) r mark → records ≡ length r → (record-of n r mark ≡ At at) × (getD r at no-mark ≡ seen .item)
       placed r s q = let w = parts r s q in (w .0 ∙ found, ap (item-at r) (sym (w .0 ∙ found)) ∙ w .1 .0)
 
-      pub share-full : (item : SharedReadMark) → most-holders ≤ seen .item .holders → Means (refused 13) b f o l records item
-      share-full item x = refused-as 13 item (λ z p r s q. later z p r q ∙ rw (placed r s q .0, placed r s q .1, le-leb most-holders (seen .item .holders) x)) (λ q. omega arith)
+      pub share-full : (slot : ℕ) → most-holders ≤ seen .item .holders → Means (refused 13) b f o l records records slot
+      share-full slot x = refused-as 13 slot (λ z p r s q. later z p r q ∙ rw (placed r s q .0, placed r s q .1, le-leb most-holders (seen .item .holders) x)) (λ q. omega arith)
 
       module _ (some-room : seen .item .holders < most-holders) where
-        pub share-bad-card : (item : SharedReadMark) → bad-card n bytes ≡ true → Means (refused 14) b f o l records item
-        share-bad-card item x = refused-as 14 item (λ z p r s q. later z p r q ∙ rw (placed r s q .0, placed r s q .1, lt-leb most-holders (seen .item .holders) some-room, x)) (λ q. omega arith)
+        pub share-bad-card : (slot : ℕ) → bad-card n bytes ≡ true → Means (refused 14) b f o l records records slot
+        share-bad-card slot x = refused-as 14 slot (λ z p r s q. later z p r q ∙ rw (placed r s q .0, placed r s q .1, lt-leb most-holders (seen .item .holders) some-room, x)) (λ q. omega arith)
 
-        pub share-kept : bad-card n bytes ≡ false → Means (slot-taken (seen .item .slot) (seen .item .owner .0) mark) b f o l at (one-more (seen .item))
+        pub share-kept : (slot : ℕ) → bad-card n bytes ≡ false → Means (slot-taken (seen .item .slot) (seen .item .owner .0) mark) b f o l at records slot
         unfolding PlanCall register-reader-for-snapshot
-        share-kept x r s q z p =
+        share-kept slot x r s q z p =
             accepts (share-tests n mode owner mark bytes) (λ m p. shares n mode owner mark bytes (record-of n (p .registry) mark) m p) (memory z) (process p r) (later z p r q ∙ rw (placed r s q .0, placed r s q .1, lt-leb most-holders (seen .item .holders) some-room, x))
-            ∙ rw (placed r s q .0, placed r s q .1)
+            ∙ rw (none-published slot (retained at r) (still-as-long at r q), placed r s q .0, placed r s q .1, lt-leb most-holders (seen .item .holders) some-room)
 
     -- a new mark
     module _ (new : seen .place ≡ Nothing) where
       unplaced : (r : List SharedReadMark) → seen ≡ seen-of (min n (length r)) r mark → records ≡ length r → (record-of n r mark ≡ Nothing) × (empty-record n r ≡ seen .empty)
       unplaced r s q = let w = parts r s q in (w .0 ∙ new, w .1 .1 (w .0 ∙ new))
 
-      pub new-bad-card : (item : SharedReadMark) → bad-card n bytes ≡ true → Means (refused 14) b f o l records item
-      new-bad-card item x = refused-as 14 item (λ z p r s q. later z p r q ∙ rw (unplaced r s q .0, x)) (λ q. omega arith)
+      pub new-bad-card : (slot : ℕ) → bad-card n bytes ≡ true → Means (refused 14) b f o l records records slot
+      new-bad-card slot x = refused-as 14 slot (λ z p r s q. later z p r q ∙ rw (unplaced r s q .0, x)) (λ q. omega arith)
 
       module _ (good : bad-card n bytes ≡ false) where
         abbrev chosen : Memory → Process → List SharedReadMark → Slot
@@ -221,22 +235,23 @@ module _ (n : ℕ) (mode : SharedWalOwnershipMode) (owner mark : ℕ) (bytes b f
           answered a y z p = rw (← y) (reads z p)
 
           pub new-taken : (slot : ℕ) → x ≡ Taken slot → (free : ℕ) → seen .empty ≡ At free →
-              Means (slot-taken slot owner mark) b′ f′ o′ l′ free (record { mark = mark; slot = slot; owner = record { 0 = owner }; holders = 1 })
+              Means (slot-taken slot owner mark) b′ f′ o′ l′ records free slot
           unfolding PlanCall
           new-taken slot y free ef r s q z p =
               let told = answered (slot-taken slot owner mark) (ap (register-answer owner mark) y) in
-              by-slot b′ f′ o′ l′ (slot-taken slot owner mark) told z p r s q (SlotAt slot) (slot-told owner mark (chosen z p r) slot (same-answer b′ f′ o′ l′ (slot-taken slot owner mark) told z p r)) (At free) ef (rw good)
+              rw (none-retained r q)
+              (by-slot b′ f′ o′ l′ (slot-taken slot owner mark) told z p r s q (SlotAt slot) (slot-told owner mark (chosen z p r) slot (same-answer b′ f′ o′ l′ (slot-taken slot owner mark) told z p r)) (At free) ef (rw good))
 
           -- the slot is one of the n
           pub taken-below : (slot : ℕ) → x ≡ Taken slot → slot < n
           taken-below slot y =
               register-took n mode owner mark bytes (memory some-memory) (locals-in some-process l) slot owner mark (ap (λ (d : Done). d .answer) (answered (slot-taken slot owner mark) (ap (register-answer owner mark) y) some-memory some-process)) .1 .1 .below
 
-          no-slot : x ≡ Turned → (free : ℕ) → seen .empty ≡ At free → (item : SharedReadMark) → Means none b′ f′ o′ l′ records item
+          no-slot : x ≡ Turned → (free : ℕ) → seen .empty ≡ At free → (slot : ℕ) → Means none b′ f′ o′ l′ records records slot
           unfolding PlanCall
-          no-slot y free ef item r s q z p =
+          no-slot y free ef slot r s q z p =
               let told = answered none (ap (register-answer owner mark) y) in
-              rw (set-out r records item (omega arith))
+              rw (unchanged slot r q)
               (by-slot b′ f′ o′ l′ none told z p r s q NoSlot (none-told owner mark (chosen z p r) (same-answer b′ f′ o′ l′ none told z p r)) (At free) ef (rw good))
 
           -- it is no refusal
@@ -244,8 +259,8 @@ module _ (n : ℕ) (mode : SharedWalOwnershipMode) (owner mark : ℕ) (bytes b f
           not-denied j y =
               never-refused owner mark (chosen some-memory some-process []) j (same-answer b′ f′ o′ l′ (refused j) (answered (refused j) (ap (register-answer owner mark) y)) some-memory some-process [])
 
-          pub new-none : OneOf (1 ∷ 2 ∷ []) (tagOf RegisterType.the-type x) → (free : ℕ) → seen .empty ≡ At free → (item : SharedReadMark) → Means none b′ f′ o′ l′ records item
-          new-none w free ef item = elim (declined x w) [ inl y ↦ no-slot y free ef item | inr y ↦ absurd (not-denied (y .0) (y .1)) ]
+          pub new-none : OneOf (1 ∷ 2 ∷ []) (tagOf RegisterType.the-type x) → (free : ℕ) → seen .empty ≡ At free → (slot : ℕ) → Means none b′ f′ o′ l′ records records slot
+          new-none w free ef slot = elim (declined x w) [ inl y ↦ no-slot y free ef slot | inr y ↦ absurd (not-denied (y .0) (y .1)) ]
 
         -- no record is empty
         module _ (no-empty : seen .empty ≡ Nothing) where
@@ -276,19 +291,19 @@ module _ (n : ℕ) (mode : SharedWalOwnershipMode) (owner mark : ℕ) (bytes b f
               let both : chosen z p r ≡ NoSlot = rw (x, y, x) in
               made z p r s q (rw (unplaced r s q .0, good, both)) ∙ rw (both, x, y)
 
-          by-tests : (t u : Bool) → found-slot (lowest-slot (available-by b l bytes) n 0) ≡ t → some-slot (stale-by mode bytes b o l) n 0 ≡ u → (item : SharedReadMark) → Means (share-answer (cond (t || u) (NotShared 13) NotTaken)) b f o l records item
+          by-tests : (t u : Bool) → found-slot (lowest-slot (available-by b l bytes) n 0) ≡ t → some-slot (stale-by mode bytes b o l) n 0 ≡ u → (slot : ℕ) → Means (share-answer (cond (t || u) (NotShared 13) NotTaken)) b f o l records records slot
           unfolding PlanCall
-          by-tests true u x y item = refused-as 13 item (λ z p r s q. number-13 z p r s q (first-found z p r)) (λ q. omega arith)
+          by-tests true u x y slot = refused-as 13 slot (λ z p r s q. number-13 z p r s q (first-found z p r)) (λ q. omega arith)
             where
               first-found : (z : Memory) (p : Process) (r : List SharedReadMark) → found-slot (chosen z p r) ≡ true
               first-found z p r = either-found (first-slot n bytes (memory z) (process p r)) (second-slot n mode bytes (memory z) (process p r)) x
-          by-tests false true x y item = refused-as 13 item (λ z p r s q. number-13 z p r s q (later-found (first-slot n bytes (memory z) (process p r)) (second-slot n mode bytes (memory z) (process p r)) (second-some z p r y))) (λ q. omega arith)
-          by-tests false false x y item =
-              λ r s q z p. rw (set-out r records item (omega arith)) (nothing-done z p r s q (not-found (first-slot n bytes (memory z) (process p r)) x) (second-none z p r y))
+          by-tests false true x y slot = refused-as 13 slot (λ z p r s q. number-13 z p r s q (later-found (first-slot n bytes (memory z) (process p r)) (second-slot n mode bytes (memory z) (process p r)) (second-some z p r y))) (λ q. omega arith)
+          by-tests false false x y slot =
+              λ r s q z p. rw (unchanged slot r q) (nothing-done z p r s q (not-found (first-slot n bytes (memory z) (process p r)) x) (second-none z p r y))
 
-          pub new-no-record : (a : Share) → a ≡ no-record-answer n mode bytes b o l → (item : SharedReadMark) → Means (share-answer a) b f o l records item
+          pub new-no-record : (a : Share) → a ≡ no-record-answer n mode bytes b o l → (slot : ℕ) → Means (share-answer a) b f o l records records slot
           unfolding no-record-answer
-          new-no-record a x item = rw x (by-tests (found-slot (lowest-slot (available-by b l bytes) n 0)) (some-slot (stale-by mode bytes b o l) n 0) refl refl item)
+          new-no-record a x slot = rw x (by-tests (found-slot (lowest-slot (available-by b l bytes) n 0)) (some-slot (stale-by mode bytes b o l) n 0) refl refl slot)
 
 -- the answer where no record is empty, by what is found
 module _ (n : ℕ) (mode : SharedWalOwnershipMode) (bytes b o l : List ℕ) (c : Slot) (e : c ≡ lowest-slot (available-by b l bytes) n 0) where

@@ -22,7 +22,7 @@ use Rattle.reader_slots.specs.Inner.{slots-refusal, SlotsBecome}
 use Rattle.reader_slots.proofs.Calls.{refuses, accepts, release-one-or-two, release-neither}
 use Rattle.mark_registry.specs.declared.Record.the-variants.{At, Nothing}
 use Rattle.mark_registry.specs.declared.Seen.{Seen}
-use Rattle.mark_registry.specs.Registry.{record-of, one-less}
+use Rattle.mark_registry.specs.Registry.{record-of, one-less, released}
 use Rattle.shared_marks.specs.Shared.{registered, last-holder, unshare-tests, unshares, unregister-reader-for-snapshot, registry-in}
 use Rattle.mark_registry.specs.Scan.{item-at, seen-of}
 use Rattle.shared_marks.specs.Inner.{mark-refusal, last-refusal, PlanCall}
@@ -91,8 +91,9 @@ later-two false true rest k e z = absurd (omega arith)
 later-two false false rest k e z = refl
 
 module _ (n : ℕ) (mode : SharedWalOwnershipMode) (mark slot owner : ℕ) (b f o l : List ℕ) (records : ℕ) (seen : Seen) (k : ℕ) (e : k ≡ slots-refusal n (length b) (length f) (length o) (length l)) where
-  abbrev Means : Answer → List ℕ → List ℕ → List ℕ → List ℕ → ℕ → SharedReadMark → Type 0
-  Means a b′ f′ o′ l′ at item = PlanCall n mark seen records (unregister-reader-for-snapshot n mode mark slot owner) b f o l a b′ f′ o′ l′ at item
+  -- the call releases the record in place i, and changes no other
+  abbrev Means : Answer → List ℕ → List ℕ → List ℕ → List ℕ → ℕ → Type 0
+  Means a b′ f′ o′ l′ i = PlanCall n mark seen records (unregister-reader-for-snapshot n mode mark slot owner) b f o l a b′ f′ o′ l′ (released i)
 
   abbrev memory : Memory → Memory
   memory z = slots-in z b f o
@@ -116,25 +117,25 @@ module _ (n : ℕ) (mode : SharedWalOwnershipMode) (mark slot owner : ℕ) (b f 
   abbrev later-tests : Memory → Process → List SharedReadMark → List Test
   later-tests z p r = (slot-number if leb n slot) ∷ last-tests z p r
 
-  refused-as : (j : ℕ) (item : SharedReadMark) → ((z : Memory) (p : Process) (r : List SharedReadMark) → seen ≡ seen-of (min n (length r)) r mark → records ≡ length r → number z p r ≡ j) → (j ≡ 0 → ⊥) → Means (refused j) b f o l records item
+  refused-as : (j : ℕ) → ((z : Memory) (p : Process) (r : List SharedReadMark) → seen ≡ seen-of (min n (length r)) r mark → records ≡ length r → number z p r ≡ j) → (j ≡ 0 → ⊥) → Means (refused j) b f o l records
   unfolding PlanCall unregister-reader-for-snapshot
-  refused-as j item h x r s q z p =
-      rw (set-out r records item (omega arith))
+  refused-as j h x r s q z p =
+      rw (set-out r records (one-less (getD r records no-mark)) (omega arith))
       (refuses (unshare-tests n mode mark slot owner) (λ m p. unshares mode slot (record-of n (p .registry) mark) m p) (memory z) (process p r) j (h z p r s q) x)
 
-  pub unshare-early : (item : SharedReadMark) → (k ≡ 0 → ⊥) → Means (refused k) b f o l records item
-  unshare-early item x = refused-as k item (λ z p r s q. release-one-or-two n (length b) (length f) (length o) (length l) (length r) k e (later-tests z p r) x) x
+  pub unshare-early : (k ≡ 0 → ⊥) → Means (refused k) b f o l records
+  unshare-early x = refused-as k (λ z p r s q. release-one-or-two n (length b) (length f) (length o) (length l) (length r) k e (later-tests z p r) x) x
 
   module _ (fine : k ≡ 0) where
     by-later : (z : Memory) (p : Process) (r : List SharedReadMark) (j : ℕ) → cond (ltb (length r) n) 2 (lowest (later-tests z p r)) ≡ j → number z p r ≡ j
     by-later z p r j x = release-neither n (length b) (length f) (length o) (length l) (length r) k e (later-tests z p r) j fine x
 
-    pub unshare-short : (item : SharedReadMark) → records < n → Means (refused 2) b f o l records item
-    unshare-short item x = refused-as 2 item (λ z p r s q. by-later z p r 2 (rw (lt-ltb (length r) n (omega arith)))) (λ q. omega arith)
+    pub unshare-short : records < n → Means (refused 2) b f o l records
+    unshare-short x = refused-as 2 (λ z p r s q. by-later z p r 2 (rw (lt-ltb (length r) n (omega arith)))) (λ q. omega arith)
 
     module _ (long : n ≤ records) where
-      pub unshare-slot-number : (item : SharedReadMark) → n ≤ slot → Means (refused 6) b f o l records item
-      unshare-slot-number item x = refused-as 6 item (λ z p r s q. by-later z p r 6 (rw (le-ltb (length r) n (omega arith), le-leb n slot x))) (λ q. omega arith)
+      pub unshare-slot-number : n ≤ slot → Means (refused 6) b f o l records
+      unshare-slot-number x = refused-as 6 (λ z p r s q. by-later z p r 6 (rw (le-ltb (length r) n (omega arith), le-leb n slot x))) (λ q. omega arith)
 
       module _ (small : slot < n) where
         by-last : (z : Memory) (p : Process) (r : List SharedReadMark) (j : ℕ) → records ≡ length r → lowest (last-tests z p r) ≡ j → number z p r ≡ j
@@ -144,24 +145,24 @@ module _ (n : ℕ) (mode : SharedWalOwnershipMode) (mark slot owner : ℕ) (b f 
         parts r s q = let w = seen-parts n r mark seen s (omega arith) in (w .0, w .1 .0)
 
         -- the mark, the slot or the owner is not registered
-        unregistered : (j : ℕ) → j ≡ mark-refusal owner mark false → ((p : Process) (r : List SharedReadMark) → seen ≡ seen-of (min n (length r)) r mark → records ≡ length r → registered slot owner (process p r) (record-of n r mark) ≡ false) → (item : SharedReadMark) → Means (refused j) b f o l records item
+        unregistered : (j : ℕ) → j ≡ mark-refusal owner mark false → ((p : Process) (r : List SharedReadMark) → seen ≡ seen-of (min n (length r)) r mark → records ≡ length r → registered slot owner (process p r) (record-of n r mark) ≡ false) → Means (refused j) b f o l records
         unfolding mark-refusal
-        unregistered j x h item =
-            refused-as j item (λ z p r s q. by-last z p r j q (rw (h p r s q) (sym x))) (λ y. some-number (eqb owner 0) (eqb mark unused) (sym x ∙ y))
+        unregistered j x h =
+            refused-as j (λ z p r s q. by-last z p r j q (rw (h p r s q) (sym x))) (λ y. some-number (eqb owner 0) (eqb mark unused) (sym x ∙ y))
 
-        pub unshare-absent : seen .place ≡ Nothing → (j : ℕ) → j ≡ mark-refusal owner mark false → (item : SharedReadMark) → Means (refused j) b f o l records item
-        unshare-absent x j y item = unregistered j y (λ p r s q. rw (parts r s q .0, x)) item
+        pub unshare-absent : seen .place ≡ Nothing → (j : ℕ) → j ≡ mark-refusal owner mark false → Means (refused j) b f o l records
+        unshare-absent x j y = unregistered j y (λ p r s q. rw (parts r s q .0, x))
 
         module _ (at : ℕ) (found : seen .place ≡ At at) where
           placed : (r : List SharedReadMark) → seen ≡ seen-of (min n (length r)) r mark → records ≡ length r → (record-of n r mark ≡ At at) × (getD r at no-mark ≡ seen .item)
           placed r s q = let w = parts r s q in (w .0 ∙ found, ap (item-at r) (sym (w .0 ∙ found)) ∙ w .1)
 
-          pub unshare-other-slot : (seen .item .slot ≡ slot → ⊥) → (j : ℕ) → j ≡ mark-refusal owner mark false → (item : SharedReadMark) → Means (refused j) b f o l records item
-          unshare-other-slot x j y item = unregistered j y (λ p r s q. rw (placed r s q .0, placed r s q .1, ne-eqb (seen .item .slot) slot x)) item
+          pub unshare-other-slot : (seen .item .slot ≡ slot → ⊥) → (j : ℕ) → j ≡ mark-refusal owner mark false → Means (refused j) b f o l records
+          unshare-other-slot x j y = unregistered j y (λ p r s q. rw (placed r s q .0, placed r s q .1, ne-eqb (seen .item .slot) slot x))
 
           module _ (its-slot : seen .item .slot ≡ slot) where
-            pub unshare-other-owner : (seen .item .owner .0 ≡ owner → ⊥) → (j : ℕ) → j ≡ mark-refusal owner mark false → (item : SharedReadMark) → Means (refused j) b f o l records item
-            unshare-other-owner x j y item = unregistered j y (λ p r s q. rw (placed r s q .0, placed r s q .1, eq-eqb (seen .item .slot) slot its-slot, ne-eqb (seen .item .owner .0) owner x)) item
+            pub unshare-other-owner : (seen .item .owner .0 ≡ owner → ⊥) → (j : ℕ) → j ≡ mark-refusal owner mark false → Means (refused j) b f o l records
+            unshare-other-owner x j y = unregistered j y (λ p r s q. rw (placed r s q .0, placed r s q .1, eq-eqb (seen .item .slot) slot its-slot, ne-eqb (seen .item .owner .0) owner x))
 
             module _ (its-owner : seen .item .owner .0 ≡ owner) (j : ℕ) (by-mark : j ≡ mark-refusal owner mark true) where
               is-registered : (p : Process) (r : List SharedReadMark) → seen ≡ seen-of (min n (length r)) r mark → records ≡ length r → registered slot owner (process p r) (record-of n r mark) ≡ true
@@ -176,14 +177,14 @@ module _ (n : ℕ) (mode : SharedWalOwnershipMode) (mark slot owner : ℕ) (b f 
                 unfolding mark-refusal
                 kept-number z p r s q = by-last z p r j q (rw (is-registered p r s q, not-last p r s q) (sym by-mark))
 
-                pub unshare-kept-refused : (item : SharedReadMark) → (j ≡ 0 → ⊥) → Means (refused j) b f o l records item
-                unshare-kept-refused item x = refused-as j item kept-number x
+                pub unshare-kept-refused : (j ≡ 0 → ⊥) → Means (refused j) b f o l records
+                unshare-kept-refused x = refused-as j kept-number x
 
-                pub unshare-kept : j ≡ 0 → (item : SharedReadMark) → item ≡ one-less (seen .item) → Means ok b f o l at item
+                pub unshare-kept : j ≡ 0 → Means ok b f o l at
                 unfolding PlanCall unregister-reader-for-snapshot
-                unshare-kept x item y r s q z p =
+                unshare-kept x r s q z p =
                     accepts (unshare-tests n mode mark slot owner) (λ m p. unshares mode slot (record-of n (p .registry) mark) m p) (memory z) (process p r) (kept-number z p r s q ∙ x)
-                    ∙ rw (placed r s q .0, placed r s q .1, ne-eqb (seen .item .holders) 1 more, y)
+                    ∙ rw (placed r s q .0, placed r s q .1, ne-eqb (seen .item .holders) 1 more)
 
               -- the last holder
               module _ (only : seen .item .holders ≡ 1) (h : ℕ) (by-slot : h ≡ last-refusal mode owner (getD o slot 0) (getD l slot 0)) where
@@ -197,20 +198,20 @@ module _ (n : ℕ) (mode : SharedWalOwnershipMode) (mark slot owner : ℕ) (b f 
                 unfolding mark-refusal
                 last-number z p r s q i x = by-last z p r i q (rw (is-registered p r s q, is-last p r s q) (rw (← by-mark) x))
 
-                pub unshare-last-refused : (item : SharedReadMark) → (h ≡ 0 → ⊥) → Means (refused h) b f o l records item
+                pub unshare-last-refused : (h ≡ 0 → ⊥) → Means (refused h) b f o l records
                 unfolding last-refusal
-                unshare-last-refused item x = refused-as h item (λ z p r s q. last-number z p r s q h (early-two (not (not (eqb (getD l slot 0) 0))) differs j h by-slot x)) x
+                unshare-last-refused x = refused-as h (λ z p r s q. last-number z p r s q h (early-two (not (not (eqb (getD l slot 0) 0))) differs j h by-slot x)) x
 
                 module _ (pass : h ≡ 0) where
                   passed-number : (z : Memory) (p : Process) (r : List SharedReadMark) → seen ≡ seen-of (min n (length r)) r mark → records ≡ length r → number z p r ≡ j
                   unfolding last-refusal
                   passed-number z p r s q = last-number z p r s q j (later-two (not (not (eqb (getD l slot 0) 0))) differs j h by-slot pass)
 
-                  pub unshare-last-mark : (item : SharedReadMark) → (j ≡ 0 → ⊥) → Means (refused j) b f o l records item
-                  unshare-last-mark item x = refused-as j item passed-number x
+                  pub unshare-last-mark : (j ≡ 0 → ⊥) → Means (refused j) b f o l records
+                  unshare-last-mark x = refused-as j passed-number x
 
-                  pub unshare-last : j ≡ 0 → (item : SharedReadMark) → item ≡ one-less (seen .item) → (b′ f′ o′ l′ : List ℕ) → SlotsBecome (λ m p. apply (empty-slot mode slot m) m) b f o l b′ f′ o′ × (l′ ≡ set l slot 0) → Means ok b′ f′ o′ l′ at item
+                  pub unshare-last : j ≡ 0 → (b′ f′ o′ l′ : List ℕ) → SlotsBecome (λ m p. apply (empty-slot mode slot m) m) b f o l b′ f′ o′ × (l′ ≡ set l slot 0) → Means ok b′ f′ o′ l′ at
                   unfolding PlanCall unregister-reader-for-snapshot
-                  unshare-last x item y b′ f′ o′ l′ w r s q z p =
+                  unshare-last x b′ f′ o′ l′ w r s q z p =
                       accepts (unshare-tests n mode mark slot owner) (λ m p. unshares mode slot (record-of n (p .registry) mark) m p) (memory z) (process p r) (passed-number z p r s q ∙ x)
-                      ∙ rw (placed r s q .0, placed r s q .1, eq-eqb (seen .item .holders) 1 only, y, w .0 z p, w .1)
+                      ∙ rw (placed r s q .0, placed r s q .1, eq-eqb (seen .item .holders) 1 only, w .0 z p, w .1)

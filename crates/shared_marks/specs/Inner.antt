@@ -5,7 +5,7 @@ use mathlib.Core.Bool.{Bool, not, _&&_, _||_, cond}
 use mathlib.Core.List.{List, [], _∷_}
 use Prim.Native.Nat.{ℕ, min}
 use lib.Dec.{eqb, ltb}
-use lib.ListN.{length, getD, set}
+use lib.ListN.{length, getD}
 use Rattle.wal_types.specs.declared.SharedReadMark.{SharedReadMark}
 use Rattle.wal_types.specs.declared.SharedWalOwnershipMode.{SharedWalOwnershipMode}
 use Rattle.wal_types.specs.Settings.{slots-in-limits, unused, is-fcntl}
@@ -57,7 +57,7 @@ last-refusal mode owner shared local =
     ∷ [])
 
 -- The call where the registry has so many records and a scan of the first n has seen this: it answers a, leaves the lists
--- b′, f′, o′ and l′, puts the record in its place, and changes nothing else.
-unfoldable pub PlanCall : ℕ → ℕ → Seen → ℕ → Call → List ℕ → List ℕ → List ℕ → List ℕ → Answer → List ℕ → List ℕ → List ℕ → List ℕ → ℕ → SharedReadMark → Type 0
-PlanCall n mark seen records call b f o l a b′ f′ o′ l′ at item =
-    (r : List SharedReadMark) → seen ≡ seen-of (min n (length r)) r mark → records ≡ length r → SharedCall call b f o l r a b′ f′ o′ l′ (set r at item)
+-- b′, f′, o′ and l′, makes this change to the registry, and changes nothing else.
+unfoldable pub PlanCall : ℕ → ℕ → Seen → ℕ → Call → List ℕ → List ℕ → List ℕ → List ℕ → Answer → List ℕ → List ℕ → List ℕ → List ℕ → (List SharedReadMark → List SharedReadMark) → Type 0
+PlanCall n mark seen records call b f o l a b′ f′ o′ l′ change =
+    (r : List SharedReadMark) → seen ≡ seen-of (min n (length r)) r mark → records ≡ length r → SharedCall call b f o l r a b′ f′ o′ l′ (change r)

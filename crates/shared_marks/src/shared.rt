@@ -9,7 +9,6 @@ use reader_slots::slots::Slot;
 use readers::register;
 use readers::register::Register;
 use wal_types::SharedOwnerRecord;
-use wal_types::SharedReadMark;
 use wal_types::SharedWalOwnershipMode;
 use wal_types::UNOWNED_LOCK;
 use wal_types::UNUSED_READER_FRAME;
@@ -18,7 +17,7 @@ ghost use Prim.Native.Nat.{_+_, _/_, _≤_};
 ghost use lib.ListN.{length};
 ghost use Rattle.reader_slots.specs.Search.{some-slot};
 ghost use Rattle.reader_moves.specs.Update.{release-answer};
-ghost use Rattle.mark_registry.specs.Registry.{one-less};
+ghost use Rattle.mark_registry.specs.Registry.{retained, published, released};
 ghost use Rattle.shared_marks.specs.Shared.{register-reader-for-snapshot, unregister-reader-for-snapshot, share-answer};
 ghost use Rattle.shared_marks.specs.Inner.{share-refusal, stale-cell, stale-by, no-record-answer, mark-refusal, last-refusal, PlanCall};
 
@@ -30,10 +29,12 @@ pub enum Share {
     Refused(u32),
 }
 
-// What a shared registration does to the registry: one record to store, past the end if none is. And its answer.
+// What a shared registration does to the registry: the place of the record that it retains, and of the one that it
+// publishes for the slot, each past the end if there is none. And its answer.
 pub struct SharePlan {
-    pub at: usize,
-    pub item: SharedReadMark,
+    pub retained: usize,
+    pub published: usize,
+    pub slot: u32,
     pub answer: Share,
 }
 
@@ -45,10 +46,10 @@ fn share_refusal(
     reader_owners: usize,
     local_readers: usize,
     records: usize,
-    owner: u64,
+    owner: SharedOwnerRecord,
     mark: u64,
 ) -> u32
-    ensures { λ r. ⌜ r ≡ share-refusal n bitmap «reader_frames» «reader_owners» «local_readers» records owner mark ⌝ }
+    ensures { λ r. ⌜ r ≡ share-refusal n bitmap «reader_frames» «reader_owners» «local_readers» records (owner .0) mark ⌝ }
 {
     let refusal = slots::slots_refusal(n, bitmap, reader_frames, reader_owners, local_readers);
     if refusal != 0 {
@@ -57,7 +58,7 @@ fn share_refusal(
     if records < n {
         return 2;
     }
-    if owner == UNOWNED_LOCK {
+    if owner.0 == UNOWNED_LOCK {
         return 9;
     }
     if mark == UNUSED_READER_FRAME {
@@ -67,13 +68,19 @@ fn share_refusal(
 }
 
 // A slot that is reclaimed: its bit 0, not held here, granted, and in ProcessScopedFcntl mode with an owner.
-fn is_stale(mode: SharedWalOwnershipMode, bit: u64, owner: u64, local_owner: u64, card: u8) -> bool
-    ensures { λ r. ⌜ r ≡ stale-cell mode bit owner «local_owner» card ⌝ }
+fn is_stale(
+    mode: SharedWalOwnershipMode,
+    bit: u64,
+    owner: SharedOwnerRecord,
+    local_owner: SharedOwnerRecord,
+    card: u8,
+) -> bool
+    ensures { λ r. ⌜ r ≡ stale-cell mode bit (owner .0) («local_owner» .0) card ⌝ }
 {
     if bit == 1 {
         return false;
     }
-    if local_owner != 0 {
+    if local_owner.0 != 0 {
         return false;
     }
     if card != 1 {
@@ -102,8 +109,8 @@ fn some_stale(
         if is_stale(
             mode,
             bit,
-            reader_owners[slot],
-            local_readers[slot],
+            SharedOwnerRecord(reader_owners[slot]),
+            SharedOwnerRecord(local_readers[slot]),
             card[slot],
         ) {
             return true;
@@ -133,7 +140,9 @@ fn without_record(
     Share::NoSlot
 }
 
-// A shared registration, but for the store of its record.
+// A shared registration, but for what it does to the registry. The registry is not lent: the contract holds for every
+// registry with so many records in whose first n a scan for the mark sees what seen has. Of arguments that fit no
+// registry (a record seen in place 3 of 2 records) it says nothing.
 pub fn share_plan(
     n: usize,
     mode: SharedWalOwnershipMode,
@@ -147,7 +156,7 @@ pub fn share_plan(
     owner: SharedOwnerRecord,
     mark: u64,
 ) -> SharePlan
-    ensures { λ r. ⌜ PlanCall n mark seen records (register-reader-for-snapshot n mode (owner .0) mark (now (card .entry))) (now (bitmap .entry)) (now («reader_frames» .entry)) (now («reader_owners» .entry)) (now («local_readers» .entry)) (share-answer (r .answer)) (now (bitmap .exit)) (now («reader_frames» .exit)) (now («reader_owners» .exit)) (now («local_readers» .exit)) (r .at) (r .item) ⌝ }
+    ensures { λ r. ⌜ PlanCall n mark seen records (register-reader-for-snapshot n mode (owner .0) mark (now (card .entry))) (now (bitmap .entry)) (now («reader_frames» .entry)) (now («reader_owners» .entry)) (now («local_readers» .entry)) (share-answer (r .answer)) (now (bitmap .exit)) (now («reader_frames» .exit)) (now («reader_owners» .exit)) (now («local_readers» .exit)) (λ registry. published (r .published) mark (r .slot) owner (retained (r .retained) registry)) ⌝ }
 {
     let place = seen.place;
     let item = seen.item;
@@ -159,52 +168,56 @@ pub fn share_plan(
         reader_owners.len(),
         local_readers.len(),
         records,
-        owner.0,
+        owner,
         mark,
     );
     if refusal != 0 {
         return SharePlan {
-            at: records,
-            item: item,
+            retained: records,
+            published: records,
+            slot: 0,
             answer: Share::Refused(refusal),
         };
     }
     if let Record::At(found) = place {
         if 65535 <= item.holders {
             return SharePlan {
-                at: records,
-                item: item,
+                retained: records,
+                published: records,
+                slot: 0,
                 answer: Share::Refused(13),
             };
         }
         if slots::bad_card(n, card) {
             return SharePlan {
-                at: records,
-                item: item,
+                retained: records,
+                published: records,
+                slot: 0,
                 answer: Share::Refused(14),
             };
         }
-        let mut kept = item;
-        kept.holders = item.holders + 1;
         let first = SharedOwnerRecord(item.owner.0);
         return SharePlan {
-            at: found,
-            item: kept,
+            retained: found,
+            published: records,
+            slot: 0,
             answer: Share::Taken(item.slot, first, mark),
         };
     }
     if slots::bad_card(n, card) {
         return SharePlan {
-            at: records,
-            item: item,
+            retained: records,
+            published: records,
+            slot: 0,
             answer: Share::Refused(14),
         };
     }
     let Record::At(free) = empty else {
         let answer = without_record(n, mode, bitmap, reader_owners, local_readers, card);
         return SharePlan {
-            at: records,
-            item: item,
+            retained: records,
+            published: records,
+            slot: 0,
             answer: answer,
         };
     };
@@ -220,47 +233,32 @@ pub fn share_plan(
         mark,
     ) else {
         return SharePlan {
-            at: records,
-            item: item,
+            retained: records,
+            published: records,
+            slot: 0,
             answer: Share::NoSlot,
         };
     };
-    let taken = SharedReadMark {
-        mark: mark,
-        slot: slot as u32,
-        owner: owner,
-        holders: 1,
-    };
     SharePlan {
-        at: free,
-        item: taken,
+        retained: records,
+        published: free,
+        slot: slot as u32,
         answer: Share::Taken(slot as u32, owner, mark),
     }
 }
 
-// What a shared release does to the registry: one record to store, past the end if none is. And its answer.
+// What a shared release does to the registry: the place of the record that it releases, past the end if there is none.
+// And its answer.
 pub struct UnsharePlan {
-    pub at: usize,
-    pub item: SharedReadMark,
+    pub released: usize,
     pub answer: Release,
 }
 
-// The record with a holder less.
-fn with_holder_less(item: SharedReadMark) -> SharedReadMark
-    ensures { λ r. ⌜ r ≡ one-less item ⌝ }
-{
-    let mut next = item;
-    if 0 < item.holders {
-        next.holders = item.holders - 1;
-    }
-    next
-}
-
 // Refusal 9, 10 or 12, by the owner, the mark and whether both are registered; 0 for none of them.
-fn mark_refusal(owner: u64, mark: u64, registered: bool) -> u32
-    ensures { λ r. ⌜ r ≡ mark-refusal owner mark registered ⌝ }
+fn mark_refusal(owner: SharedOwnerRecord, mark: u64, registered: bool) -> u32
+    ensures { λ r. ⌜ r ≡ mark-refusal (owner .0) mark registered ⌝ }
 {
-    if owner == UNOWNED_LOCK {
+    if owner.0 == UNOWNED_LOCK {
         return 9;
     }
     if mark == UNUSED_READER_FRAME {
@@ -276,19 +274,19 @@ fn mark_refusal(owner: u64, mark: u64, registered: bool) -> u32
 // local one.
 fn last_refusal(
     mode: SharedWalOwnershipMode,
-    owner: u64,
-    shared_owner: u64,
-    local_owner: u64,
+    owner: SharedOwnerRecord,
+    shared_owner: SharedOwnerRecord,
+    local_owner: SharedOwnerRecord,
 ) -> u32
-    ensures { λ r. ⌜ r ≡ last-refusal mode owner «shared_owner» «local_owner» ⌝ }
+    ensures { λ r. ⌜ r ≡ last-refusal mode (owner .0) («shared_owner» .0) («local_owner» .0) ⌝ }
 {
-    if local_owner == UNOWNED_LOCK {
+    if local_owner.0 == UNOWNED_LOCK {
         return 7;
     }
-    if owner != shared_owner {
+    if owner.0 != shared_owner.0 {
         return 8;
     }
-    if owner == local_owner {
+    if owner.0 == local_owner.0 {
         return 0;
     }
     match mode {
@@ -297,7 +295,8 @@ fn last_refusal(
     }
 }
 
-// A shared release, but for the store of its record.
+// A shared release, but for what it does to the registry. As in share_plan, the contract holds for every registry that
+// seen and records fit, and says nothing of arguments that fit none.
 pub fn unshare_plan(
     n: usize,
     mode: SharedWalOwnershipMode,
@@ -311,7 +310,7 @@ pub fn unshare_plan(
     slot: usize,
     owner: SharedOwnerRecord,
 ) -> UnsharePlan
-    ensures { λ r. ⌜ PlanCall n mark seen records (unregister-reader-for-snapshot n mode mark slot (owner .0)) (now (bitmap .entry)) (now («reader_frames» .entry)) (now («reader_owners» .entry)) (now («local_readers» .entry)) (release-answer (r .answer)) (now (bitmap .exit)) (now («reader_frames» .exit)) (now («reader_owners» .exit)) (now («local_readers» .exit)) (r .at) (r .item) ⌝ }
+    ensures { λ r. ⌜ PlanCall n mark seen records (unregister-reader-for-snapshot n mode mark slot (owner .0)) (now (bitmap .entry)) (now («reader_frames» .entry)) (now («reader_owners» .entry)) (now («local_readers» .entry)) (release-answer (r .answer)) (now (bitmap .exit)) (now («reader_frames» .exit)) (now («reader_owners» .exit)) (now («local_readers» .exit)) (released (r .released)) ⌝ }
 {
     let place = seen.place;
     let item = seen.item;
@@ -324,77 +323,71 @@ pub fn unshare_plan(
     );
     if refusal != 0 {
         return UnsharePlan {
-            at: records,
-            item: item,
+            released: records,
             answer: Release::Refused(refusal),
         };
     }
     if records < n {
         return UnsharePlan {
-            at: records,
-            item: item,
+            released: records,
             answer: Release::Refused(2),
         };
     }
     if n <= slot {
         return UnsharePlan {
-            at: records,
-            item: item,
+            released: records,
             answer: Release::Refused(6),
         };
     }
     let Record::At(found) = place else {
-        let absent = mark_refusal(owner.0, mark, false);
+        let absent = mark_refusal(owner, mark, false);
         return UnsharePlan {
-            at: records,
-            item: item,
+            released: records,
             answer: Release::Refused(absent),
         };
     };
     if item.slot as usize != slot {
-        let other = mark_refusal(owner.0, mark, false);
+        let other = mark_refusal(owner, mark, false);
         return UnsharePlan {
-            at: records,
-            item: item,
+            released: records,
             answer: Release::Refused(other),
         };
     }
     if item.owner.0 != owner.0 {
-        let other = mark_refusal(owner.0, mark, false);
+        let other = mark_refusal(owner, mark, false);
         return UnsharePlan {
-            at: records,
-            item: item,
+            released: records,
             answer: Release::Refused(other),
         };
     }
-    let less = with_holder_less(item);
-    let by_mark = mark_refusal(owner.0, mark, true);
+    let by_mark = mark_refusal(owner, mark, true);
     if item.holders != 1 {
         if by_mark != 0 {
             return UnsharePlan {
-                at: records,
-                item: item,
+                released: records,
                 answer: Release::Refused(by_mark),
             };
         }
         return UnsharePlan {
-            at: found,
-            item: less,
+            released: found,
             answer: Release::Released,
         };
     }
-    let by_slot = last_refusal(mode, owner.0, reader_owners[slot], local_readers[slot]);
+    let by_slot = last_refusal(
+        mode,
+        owner,
+        SharedOwnerRecord(reader_owners[slot]),
+        SharedOwnerRecord(local_readers[slot]),
+    );
     if by_slot != 0 {
         return UnsharePlan {
-            at: records,
-            item: item,
+            released: records,
             answer: Release::Refused(by_slot),
         };
     }
     if by_mark != 0 {
         return UnsharePlan {
-            at: records,
-            item: item,
+            released: records,
             answer: Release::Refused(by_mark),
         };
     }
@@ -407,8 +400,7 @@ pub fn unshare_plan(
         slot,
     );
     UnsharePlan {
-        at: found,
-        item: less,
+        released: found,
         answer: Release::Released,
     }
 }

@@ -13,11 +13,11 @@ mul-frame c = search needs
 slice-read-frame : tie.Need-slice-read-frame
 slice-read-frame c = search needs
 
-mul-is-skipped : tie.Need-mul-is-skipped
-mul-is-skipped c = search needs
+mul-if2 : tie.Need-mul-if2
+mul-if2 c = search needs
 
-slice-read-is-skipped : tie.Need-slice-read-is-skipped
-slice-read-is-skipped c = search needs
+slice-read-if2 : tie.Need-slice-read-if2
+slice-read-if2 c = search needs
 
 is-skipped-requires : tie.Need-is-skipped-requires
 is-skipped-requires c κs = search needs
@@ -25,8 +25,8 @@ is-skipped-requires c κs = search needs
 returns : tie.Need-returns
 returns c = let w = getD-any (c .before .before .before .before .before .before .before .before .before .args .reader-frames .now) (c .before .before .before .before .before .before .before .before .before .args .slot) unused 0 (omega arith) in let s = sym (c .before .is-skipped .ensures) ∙ c .if1 .taken in (rw (w, s), λ z p. rw (w, s))
 
-mul-if2 : tie.Need-mul-if2
-mul-if2 c = search needs
+mul-if2-2 : tie.Need-mul-if2-2
+mul-if2-2 c = search needs
 
 shared-slice-read-if2 : tie.Need-shared-slice-read-if2
 shared-slice-read-if2 c = search needs
@@ -61,11 +61,11 @@ live-reader-frame-spec =
     (tie.spec
     mul-frame
     slice-read-frame
-    mul-is-skipped
-    slice-read-is-skipped
+    mul-if2
+    slice-read-if2
     is-skipped-requires
     returns
-    mul-if2
+    mul-if2-2
     shared-slice-read-if2
     returns-2
     shared-slice-read-if3

@@ -21,10 +21,10 @@ returns-3 : tie.Need-returns-3
 returns-3 c = rw (ne-eqb _ _ (c .if3 .taken), last-false _ _ _)
 
 returns-4 : tie.Need-returns-4
-returns-4 c = rw (sym (c .before .before .before .is-failed .ensures) ∙ c .before .before .if2 .left, sym (c .before .before .before .before .before .is-skipped .ensures) ∙ c .before .before .before .before .if1 .left, ne-eqb _ _ (c .if4 .taken), eq-eqb _ _ (c .before .if3 .left))
+returns-4 c = rw (sym (c .before .before .before .before .is-failed .ensures) ∙ c .before .before .before .if2 .left, sym (c .before .before .before .before .before .before .is-skipped .ensures) ∙ c .before .before .before .before .before .if1 .left, ne-eqb _ _ (c .if4 .taken), eq-eqb _ _ (c .before .before .if3 .left))
 
 returns-5 : tie.Need-returns-5
-returns-5 c = rw (sym (c .before .before .before .is-failed .ensures) ∙ c .before .before .if2 .left, sym (c .before .before .before .before .before .is-skipped .ensures) ∙ c .before .before .before .before .if1 .left, eq-eqb _ _ (c .if4 .left), eq-eqb _ _ (c .before .if3 .left)) (simp and-true)
+returns-5 c = rw (sym (c .before .before .before .before .is-failed .ensures) ∙ c .before .before .before .if2 .left, sym (c .before .before .before .before .before .before .is-skipped .ensures) ∙ c .before .before .before .before .before .if1 .left, eq-eqb _ _ (c .if4 .left), eq-eqb _ _ (c .before .before .if3 .left)) (simp and-true)
 
 pub is-db-file-slot-spec : {M : Type 1} → statement M
 is-db-file-slot-spec =

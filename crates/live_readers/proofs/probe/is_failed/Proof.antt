@@ -17,10 +17,10 @@ returns-2 : tie.Need-returns-2
 returns-2 c = rw (sym (c .before .is-skipped .ensures) ∙ c .if2 .taken, sym (c .before .before .before .is-fcntl .ensures) ∙ c .before .before .if1 .left)
 
 returns-3 : tie.Need-returns-3
-returns-3 c = rw (sym (c .before .before .is-skipped .ensures) ∙ c .before .if2 .left, sym (c .before .before .before .before .is-fcntl .ensures) ∙ c .before .before .before .if1 .left, ne-eqb _ _ (c .if3 .taken))
+returns-3 c = rw (sym (c .before .before .before .is-skipped .ensures) ∙ c .before .before .if2 .left, sym (c .before .before .before .before .before .is-fcntl .ensures) ∙ c .before .before .before .before .if1 .left, ne-eqb _ _ (c .if3 .taken))
 
 returns-4 : tie.Need-returns-4
-returns-4 c = rw (sym (c .before .before .is-skipped .ensures) ∙ c .before .if2 .left, sym (c .before .before .before .before .is-fcntl .ensures) ∙ c .before .before .before .if1 .left, eq-eqb _ _ (c .if3 .left))
+returns-4 c = rw (sym (c .before .before .before .is-skipped .ensures) ∙ c .before .before .if2 .left, sym (c .before .before .before .before .before .is-fcntl .ensures) ∙ c .before .before .before .before .if1 .left, eq-eqb _ _ (c .if3 .left))
 
 pub is-failed-spec : {M : Type 1} → statement M
 is-failed-spec =

@@ -28,20 +28,20 @@ mul-is-db-file-slot c = omega arith
 shared-slice-read-is-db-file-slot : tie.Need-shared-slice-read-is-db-file-slot Inv-loop μ-loop
 shared-slice-read-is-db-file-slot c = omega arith
 
-mul-is-db-file-slot-2 : tie.Need-mul-is-db-file-slot-2 Inv-loop μ-loop
-mul-is-db-file-slot-2 c = omega arith
+mul-t13 : tie.Need-mul-t13 Inv-loop μ-loop
+mul-t13 c = omega arith
+
+shared-slice-read-t15 : tie.Need-shared-slice-read-t15 Inv-loop μ-loop
+shared-slice-read-t15 c = omega arith
+
+mul-t17 : tie.Need-mul-t17 Inv-loop μ-loop
+mul-t17 c = omega arith
+
+shared-slice-read-t19 : tie.Need-shared-slice-read-t19 Inv-loop μ-loop
+shared-slice-read-t19 c = omega arith
 
 shared-slice-read-is-db-file-slot-2 : tie.Need-shared-slice-read-is-db-file-slot-2 Inv-loop μ-loop
 shared-slice-read-is-db-file-slot-2 c = omega arith
-
-mul-is-db-file-slot-3 : tie.Need-mul-is-db-file-slot-3 Inv-loop μ-loop
-mul-is-db-file-slot-3 c = omega arith
-
-shared-slice-read-is-db-file-slot-3 : tie.Need-shared-slice-read-is-db-file-slot-3 Inv-loop μ-loop
-shared-slice-read-is-db-file-slot-3 c = omega arith
-
-shared-slice-read-is-db-file-slot-4 : tie.Need-shared-slice-read-is-db-file-slot-4 Inv-loop μ-loop
-shared-slice-read-is-db-file-slot-4 c = omega arith
 
 is-db-file-slot-requires : tie.Need-is-db-file-slot-requires Inv-loop μ-loop
 is-db-file-slot-requires c κs = search needs
@@ -70,11 +70,11 @@ slots-looked-at-spec =
     loop-holds
     mul-is-db-file-slot
     shared-slice-read-is-db-file-slot
-    mul-is-db-file-slot-2
+    mul-t13
+    shared-slice-read-t15
+    mul-t17
+    shared-slice-read-t19
     shared-slice-read-is-db-file-slot-2
-    mul-is-db-file-slot-3
-    shared-slice-read-is-db-file-slot-3
-    shared-slice-read-is-db-file-slot-4
     is-db-file-slot-requires
     returns
     add-slot

@@ -27,20 +27,20 @@ mul-is-failed c = omega arith
 shared-slice-read-is-failed : tie.Need-shared-slice-read-is-failed Inv-loop μ-loop
 shared-slice-read-is-failed c = omega arith
 
-mul-is-failed-2 : tie.Need-mul-is-failed-2 Inv-loop μ-loop
-mul-is-failed-2 c = omega arith
+mul-t13 : tie.Need-mul-t13 Inv-loop μ-loop
+mul-t13 c = omega arith
+
+shared-slice-read-t15 : tie.Need-shared-slice-read-t15 Inv-loop μ-loop
+shared-slice-read-t15 c = omega arith
+
+mul-t17 : tie.Need-mul-t17 Inv-loop μ-loop
+mul-t17 c = omega arith
+
+shared-slice-read-t19 : tie.Need-shared-slice-read-t19 Inv-loop μ-loop
+shared-slice-read-t19 c = omega arith
 
 shared-slice-read-is-failed-2 : tie.Need-shared-slice-read-is-failed-2 Inv-loop μ-loop
 shared-slice-read-is-failed-2 c = omega arith
-
-mul-is-failed-3 : tie.Need-mul-is-failed-3 Inv-loop μ-loop
-mul-is-failed-3 c = omega arith
-
-shared-slice-read-is-failed-3 : tie.Need-shared-slice-read-is-failed-3 Inv-loop μ-loop
-shared-slice-read-is-failed-3 c = omega arith
-
-shared-slice-read-is-failed-4 : tie.Need-shared-slice-read-is-failed-4 Inv-loop μ-loop
-shared-slice-read-is-failed-4 c = omega arith
 
 is-failed-requires : tie.Need-is-failed-requires Inv-loop μ-loop
 is-failed-requires c κs = search needs
@@ -69,11 +69,11 @@ some-probe-failed-spec =
     loop-holds
     mul-is-failed
     shared-slice-read-is-failed
-    mul-is-failed-2
+    mul-t13
+    shared-slice-read-t15
+    mul-t17
+    shared-slice-read-t19
     shared-slice-read-is-failed-2
-    mul-is-failed-3
-    shared-slice-read-is-failed-3
-    shared-slice-read-is-failed-4
     is-failed-requires
     returns
     add-slot

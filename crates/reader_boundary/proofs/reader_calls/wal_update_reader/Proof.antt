@@ -141,16 +141,16 @@ module _ {M : Type 1} (𝓤 : URA M) (H : Heap 𝓤) (A : Atoms 𝓤) (W : Given
 
   -- what `move_told` is passed, and what it tells
   abbrev to-tell : Update → Tell 𝓤 H A mem run .Ghost
-  to-tell r = ((tt, tt, tt, (r, (sl, (ow, (m, tt)))), (answer-val r ∷ [], (vint w64 sl ∷ [], (vint w64 ow ∷ [], (vint w64 m ∷ [], tt))))), tt)
+  to-tell r = ((tt, tt, tt, (r, (sl, (owner-of ow, (m, tt)))), (answer-val r ∷ [], (vint w64 sl ∷ [], (owner-val (owner-of ow) ∷ [], (vint w64 m ∷ [], tt))))), tt)
 
-  goes-tell : (r : Update) → ent 𝓤 (⋆ 𝓤 H A (‵ ftrue ∷ ‵ (owns (S.the-row ∷ usize ∷ u64 ∷ u64 ∷ []) (r, (sl, (ow, (m, tt)))) (answer-val r ∷ [], (vint w64 sl ∷ [], (vint w64 ow ∷ [], (vint w64 m ∷ [], tt))))) ∷ [])) (Tell 𝓤 H A mem run .pre (to-tell r))
-  goes-tell r = qed W (‵ ftrue ∷ ‵ (owns (S.the-row ∷ usize ∷ u64 ∷ u64 ∷ []) (r, (sl, (ow, (m, tt)))) (answer-val r ∷ [], (vint w64 sl ∷ [], (vint w64 ow ∷ [], (vint w64 m ∷ [], tt))))) ∷ []) ∵ join ! $ frame ! $ done !
+  goes-tell : (r : Update) → ent 𝓤 (⋆ 𝓤 H A (‵ ftrue ∷ ‵ (owns (S.the-row ∷ usize ∷ O.the-row ∷ u64 ∷ []) (r, (sl, (owner-of ow, (m, tt)))) (answer-val r ∷ [], (vint w64 sl ∷ [], (owner-val (owner-of ow) ∷ [], (vint w64 m ∷ [], tt))))) ∷ [])) (Tell 𝓤 H A mem run .pre (to-tell r))
+  goes-tell r = qed W (‵ ftrue ∷ ‵ (owns (S.the-row ∷ usize ∷ O.the-row ∷ u64 ∷ []) (r, (sl, (owner-of ow, (m, tt)))) (answer-val r ∷ [], (vint w64 sl ∷ [], (owner-val (owner-of ow) ∷ [], (vint w64 m ∷ [], tt))))) ∷ []) ∵ join ! $ frame ! $ done !
 
   abbrev Told-as : Update → ReaderReply → Type 0
   Told-as r t = t ≡ reader-reply (update-answer sl ow m r)
 
-  said-tell : (r : Update) (t : ReaderReply) → ent 𝓤 (ensured 𝓤 H A tell.ended (tell.clauses 𝓤 H A mem run) tt (r, (sl, (ow, (m, tt)))) tt t) (fact 𝓤 (Told-as r t))
-  said-tell r t = exE 𝓤 _ (λ ws. snd∗ 𝓤 (sem 𝓤 H A (lasts tell.ended tt (r, (sl, (ow, (m, tt)))) ws)) (fact 𝓤 (Told-as r t)))
+  said-tell : (r : Update) (t : ReaderReply) → ent 𝓤 (ensured 𝓤 H A tell.ended (tell.clauses 𝓤 H A mem run) tt (r, (sl, (owner-of ow, (m, tt)))) tt t) (fact 𝓤 (Told-as r t))
+  said-tell r t = exE 𝓤 _ (λ ws. snd∗ 𝓤 (sem 𝓤 H A (lasts tell.ended tt (r, (sl, (owner-of ow, (m, tt)))) ws)) (fact 𝓤 (Told-as r t)))
 
   module _ (C : Calls 𝓤 H) (Λ : Loops 𝓤 H) (fm : FmC 𝓤 H (W .laws) C) (known : Triple 𝓤 (C #registry-calls·direct·update-reader) (Core 𝓤 H A mem run)) (known-tell : Triple 𝓤 (C #reader-replies·move-told) (Tell 𝓤 H A mem run)) where
     walk : ent 𝓤 (onEntry 𝓤 H A entry.signature κs qs a at) (WpFn 𝓤 H C Λ code.function flat Post)
@@ -162,29 +162,29 @@ module _ {M : Type 1} (𝓤 : URA M) (H : Heap 𝓤) (A : Atoms 𝓤) (W : Given
         pass1 ! (init ! 8 refl (tt, record { fits = g-m })) $ pass0 ! $
         move ! (25 ∷ []) $ fsplit ! $ move ! (1 ∷ []) $ fsplit ! $ move ! (1 ∷ []) $ fsplit ! $ move ! (1 ∷ []) $ fsplit ! $ move ! (1 ∷ []) $ fsplit ! $ move ! (1 ∷ []) $ fsplit ! $ move ! (1 ∷ []) $ fsplit ! $ move ! (1 ∷ []) $
         drop ! $ move ! (6 ∷ []) $ drop ! $ move ! (2 ∷ []) $ drop ! $ move ! (1 ∷ []) $ drop ! $ drop ! $
-        assigns ! (addr ! (from ! (fld ! refl (hop ! (look-in ! 21 (sub ! 0 refl (whole !))) (stop !))))) (from ! (stop !)) (init ! 7 refl (tt, tt)) $
-        assigns ! (agg ! (and-then ! (load ! (from ! (stop !)) (look ! 7 refl)) (and-then ! (load ! (from ! (fld ! refl (stop !))) (look-in ! 21 (sub ! 1 refl (whole !)))) (no-more !)))) (from ! (stop !)) (init ! 5 refl (tt, (tt, (record { fits = room-y1 .0 }, tt)))) $
-        assigns ! (agg ! (and-then ! (load ! (from ! (stop !)) (look ! 13 refl)) (no-more !))) (from ! (stop !)) (init ! 3 refl (LL.lawful O.the-type O′.the-laws 𝓤 H A W .typed (owner-of ow) _ (owner-is ow g-ow) .0)) $
+        assigns ! (agg ! (and-then ! (load ! (from ! (stop !)) (look ! 13 refl)) (no-more !))) (from ! (stop !)) (init ! 9 refl (LL.lawful O.the-type O′.the-laws 𝓤 H A W .typed (owner-of ow) _ (owner-is ow g-ow) .0)) $
+        assigns ! (addr ! (from ! (fld ! refl (hop ! (look-in ! 21 (sub ! 0 refl (whole !))) (stop !))))) (from ! (stop !)) (init ! 5 refl (tt, tt)) $
+        assigns ! (agg ! (and-then ! (load ! (from ! (stop !)) (look ! 5 refl)) (and-then ! (load ! (from ! (fld ! refl (stop !))) (look-in ! 21 (sub ! 1 refl (whole !)))) (no-more !)))) (from ! (stop !)) (init ! 3 refl (tt, (tt, (record { fits = room-y1 .0 }, tt)))) $
         -- what the core is passed
         move ! (1 ∷ []) $ use1 W (‵ (ShrSlice (named 1) κ1 u64 .own y2 (slice-vals y2)) ⊛ ‵ (ShrSlice (named 1) κ1 u64 .own y2 (slice-vals y2))) (shr-slice-copy 𝓤 H A W (named 1) κ1 u64 .twice y2 (slice-vals y2)) $ split ! $
         move ! (2 ∷ []) $ use1 W (‵ (ShrSlice (named 2) κ2 R .own g (slice-vals g)) ⊛ ‵ (ShrSlice (named 2) κ2 R .own g (slice-vals g))) (shr-slice-copy 𝓤 H A W (named 2) κ2 R .twice g (slice-vals g)) $ split ! $ nothing ! $
         owned ! u64 (Is u64) (uint-makes 𝓤 H A W w64) m _ (refl, g-m) $ fjoin ! $ owned ! O.the-row (Is O.the-row) (LL.makes O.the-type O′.the-plain 𝓤 H A) (owner-of ow) _ (owner-is ow g-ow) $ fjoin ! $
         owned ! usize (Is usize) (uint-makes 𝓤 H A W w64) sl _ (refl, g-sl) $ fjoin ! $ move ! (1 ∷ 0 ∷ []) $ fjoin ! $ move ! (2 ∷ 0 ∷ []) $ fjoin ! $ move ! (3 ∷ 0 ∷ []) $ fjoin ! $
         owned ! usize (Is usize) (uint-makes 𝓤 H A W w64) n _ (refl, g-n) $ fjoin ! $ move ! (27 ∷ 0 ∷ []) $ use2 W (raw (Core 𝓤 H A mem run .pre to-core)) goes-core $
-        calls-at ! fm (Core 𝓤 H A mem run) known to-core (and-then ! (load ! (from ! (stop !)) (look ! 23 refl)) (and-then ! (load ! (from ! (stop !)) (look ! 5 refl)) (and-then ! (load ! (from ! (stop !)) (look ! 19 refl)) (and-then ! (load ! (from ! (stop !)) (look ! 17 refl)) (and-then ! (load ! (from ! (stop !)) (look ! 15 refl)) (and-then ! (load ! (from ! (stop !)) (look ! 3 refl)) (and-then ! (load ! (from ! (stop !)) (look ! 11 refl)) (no-more !)))))))) (λ x.
+        calls-at ! fm (Core 𝓤 H A mem run) known to-core (and-then ! (load ! (from ! (stop !)) (look ! 23 refl)) (and-then ! (load ! (from ! (stop !)) (look ! 3 refl)) (and-then ! (load ! (from ! (stop !)) (look ! 19 refl)) (and-then ! (load ! (from ! (stop !)) (look ! 17 refl)) (and-then ! (load ! (from ! (stop !)) (look ! 15 refl)) (and-then ! (load ! (from ! (stop !)) (look ! 9 refl)) (and-then ! (load ! (from ! (stop !)) (look ! 11 refl)) (no-more !)))))))) (λ x.
         use1 W (later (some (λ (r : Update). (tokens ⊛ ‵ (S.the-row .own r (x ∷ []))) ⊛ raw (ensured 𝓤 H A core.ended (core.clauses 𝓤 H A mem run) κs args tt r)))) (id⊢ 𝓤 _) $ await ! tt $ pick ! (λ r.
         split ! $ move ! (1 ∷ []) $ use1 W (some (λ (ws : Lasts). ‵ (lasts core.ended κs args ws) ⊛ raw (fact 𝓤 (Kept r (ws .1 .0))))) (id⊢ 𝓤 _) $ pick ! (λ ws.
         split ! $ move ! (1 ∷ []) $ heard ! (Kept r (ws .1 .0)) (λ e. fsplit ! $ drop ! $ fsplit ! $ fsplit ! $ move ! (1 ∷ []) $ feqL ! (λ k1. move ! (1 ∷ []) $ drop ! $ move ! (1 ∷ []) $ split ! $ move ! (1 ∷ []) $
         peeks ! S.the-row (Is S.the-row) (shows 𝓤 H A S.the-row) r (x ∷ []) (λ ir. drop ! $
-        land ! (from ! (stop !)) (init ! 10 refl (EL.lawful S.the-type S′.the-laws 𝓤 H A W tt .typed r _ ir .0)) $
-        rewrite ! 10 (λ (u : Val). ‵ (fat fullShare S′.mir l₈ 0 u)) (ap only (EL.tells S.the-type S′.the-laws r (x ∷ []) ir)) refl $
+        land ! (from ! (stop !)) (init ! 8 refl (EL.lawful S.the-type S′.the-laws 𝓤 H A W tt .typed r _ ir .0)) $
+        rewrite ! 8 (λ (u : Val). ‵ (fat fullShare S′.mir l₉ 0 u)) (ap only (EL.tells S.the-type S′.the-laws r (x ∷ []) ir)) refl $
         -- the reply
-        nothing ! $ owned ! u64 (Is u64) (uint-makes 𝓤 H A W w64) m _ (refl, g-m) $ fjoin ! $ owned ! u64 (Is u64) (uint-makes 𝓤 H A W w64) ow _ (refl, g-ow) $ fjoin ! $
+        nothing ! $ owned ! u64 (Is u64) (uint-makes 𝓤 H A W w64) m _ (refl, g-m) $ fjoin ! $ owned ! O.the-row (Is O.the-row) (LL.makes O.the-type O′.the-plain 𝓤 H A) (owner-of ow) _ (owner-is ow g-ow) $ fjoin ! $
         owned ! usize (Is usize) (uint-makes 𝓤 H A W w64) sl _ (refl, g-sl) $ fjoin ! $
         owned ! S.the-row (Is S.the-row) (EL.makes S.the-type S′.the-plain 𝓤 H A) r _ (subst (Is S.the-row r) (EL.tells S.the-type S′.the-laws r (x ∷ []) ir) ir) $ fjoin ! $ nothing ! $
         use2 W (raw (Tell 𝓤 H A mem run .pre (to-tell r))) (goes-tell r) $
-        calls-at ! fm (Tell 𝓤 H A mem run) known-tell (to-tell r) (and-then ! (load ! (from ! (stop !)) (look ! 11 refl)) (and-then ! (load ! (from ! (stop !)) (look ! 17 refl)) (and-then ! (load ! (from ! (stop !)) (look ! 15 refl)) (and-then ! (load ! (from ! (stop !)) (look ! 13 refl)) (no-more !))))) (λ y.
-        use1 W (later (some (λ (t : ReaderReply). (‵ ftrue ⊛ ‵ (Y.the-row .own t (y ∷ []))) ⊛ raw (ensured 𝓤 H A tell.ended (tell.clauses 𝓤 H A mem run) tt (r, (sl, (ow, (m, tt)))) tt t)))) (id⊢ 𝓤 _) $ await ! tt $ pick ! (λ t.
+        calls-at ! fm (Tell 𝓤 H A mem run) known-tell (to-tell r) (and-then ! (load ! (from ! (stop !)) (look ! 9 refl)) (and-then ! (load ! (from ! (stop !)) (look ! 17 refl)) (and-then ! (load ! (from ! (stop !)) (look ! 11 refl)) (and-then ! (load ! (from ! (stop !)) (look ! 13 refl)) (no-more !))))) (λ y.
+        use1 W (later (some (λ (t : ReaderReply). (‵ ftrue ⊛ ‵ (Y.the-row .own t (y ∷ []))) ⊛ raw (ensured 𝓤 H A tell.ended (tell.clauses 𝓤 H A mem run) tt (r, (sl, (owner-of ow, (m, tt)))) tt t)))) (id⊢ 𝓤 _) $ await ! tt $ pick ! (λ t.
         split ! $ move ! (1 ∷ []) $ use1 W (raw (fact 𝓤 (Told-as r t))) (said-tell r t) $ heard ! (Told-as r t) (λ et. split ! $ drop ! $ peeks ! Y.the-row (Is Y.the-row) (shows 𝓤 H A Y.the-row) t (y ∷ []) (λ it. drop ! $
         land ! (from ! (stop !)) (init ! 26 refl (LL.lawful Y.the-type Y′.the-laws 𝓤 H A W .typed t _ it .0)) $
         rewrite ! 26 (λ (u : Val). ‵ (fat fullShare Y′.mir l₀ 0 u)) (ap only (LL.tells Y.the-type Y′.the-laws t (y ∷ []) it)) refl $

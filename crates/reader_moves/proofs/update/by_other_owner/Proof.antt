@@ -16,7 +16,7 @@ returns-2 : tie.Need-returns-2
 returns-2 c = rw (eq-eqb _ _ (c .before .before .if1 .left), c .enum-told .given .1)
 
 returns-3 : tie.Need-returns-3
-returns-3 c = rw (eq-eqb _ _ (c .before .before .if1 .left), c .enum-told2 .given .1)
+returns-3 c = rw (eq-eqb _ _ (c .before .before .before .before .if1 .left), c .before .before .enum-told2 .given .1)
 
 pub by-other-owner-spec : {M : Type 1} → statement M
 by-other-owner-spec = tie.close (tie.spec returns enum-told enum-told-2 returns-2 returns-3)

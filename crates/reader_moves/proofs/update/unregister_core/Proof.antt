@@ -27,17 +27,17 @@ slice-read-if4 c = let h = enough _ _ _ _ _ _ (c .before .before .before .before
 returns-4 : tie.Need-returns-4
 returns-4 c = release-not-held _ _ _ _ _ _ _ _ _ _ _ (c .before .before .before .before .before .slots-refusal .ensures) (c .before .before .before .before .if1 .left) (c .before .before .before .if2 .left) (c .before .before .if3 .left) (c .if4 .taken)
 
-mul-by-other-owner : tie.Need-mul-by-other-owner
-mul-by-other-owner c = let h = enough _ _ _ _ _ _ (c .before .before .before .before .before .slots-refusal .ensures) (c .before .before .before .before .if1 .left) in omega arith
+mul-t15 : tie.Need-mul-t15
+mul-t15 c = let h = enough _ _ _ _ _ _ (c .before .before .before .before .before .slots-refusal .ensures) (c .before .before .before .before .if1 .left) in omega arith
 
-slice-read-by-other-owner : tie.Need-slice-read-by-other-owner
-slice-read-by-other-owner c = let h = enough _ _ _ _ _ _ (c .before .before .before .before .before .before .slots-refusal .ensures) (c .before .before .before .before .before .if1 .left) in omega arith
+slice-read-t18 : tie.Need-slice-read-t18
+slice-read-t18 c = let h = enough _ _ _ _ _ _ (c .before .before .before .before .before .before .slots-refusal .ensures) (c .before .before .before .before .before .if1 .left) in omega arith
 
-mul-by-other-owner-2 : tie.Need-mul-by-other-owner-2
-mul-by-other-owner-2 c = let h = enough _ _ _ _ _ _ (c .before .before .before .before .before .before .slots-refusal .ensures) (c .before .before .before .before .before .if1 .left) in omega arith
+mul-t13 : tie.Need-mul-t13
+mul-t13 c = let h = enough _ _ _ _ _ _ (c .before .before .before .before .before .before .slots-refusal .ensures) (c .before .before .before .before .before .if1 .left) in omega arith
 
-slice-read-by-other-owner-2 : tie.Need-slice-read-by-other-owner-2
-slice-read-by-other-owner-2 c = let h = enough _ _ _ _ _ _ (c .before .before .before .before .before .before .before .slots-refusal .ensures) (c .before .before .before .before .before .before .if1 .left) in omega arith
+slice-read-t23 : tie.Need-slice-read-t23
+slice-read-t23 c = let h = enough _ _ _ _ _ _ (c .before .before .before .before .before .before .before .slots-refusal .ensures) (c .before .before .before .before .before .before .if1 .left) in omega arith
 
 by-other-owner-requires : tie.Need-by-other-owner-requires
 by-other-owner-requires c κs = search needs
@@ -80,10 +80,10 @@ unregister-core-spec =
     mul-if4
     slice-read-if4
     returns-4
-    mul-by-other-owner
-    slice-read-by-other-owner
-    mul-by-other-owner-2
-    slice-read-by-other-owner-2
+    mul-t15
+    slice-read-t18
+    mul-t13
+    slice-read-t23
     by-other-owner-requires
     returns-5
     returns-6

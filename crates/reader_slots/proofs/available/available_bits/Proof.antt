@@ -24,14 +24,14 @@ sub-with-granted c = omega arith
 cast-with-granted : tie.Need-cast-with-granted Inv-loop μ-loop
 cast-with-granted c = omega arith
 
-mul-with-granted : tie.Need-mul-with-granted Inv-loop μ-loop
-mul-with-granted c = omega arith
+mul-t12 : tie.Need-mul-t12 Inv-loop μ-loop
+mul-t12 c = omega arith
+
+shared-slice-read-t9 : tie.Need-shared-slice-read-t9 Inv-loop μ-loop
+shared-slice-read-t9 c = omega arith
 
 shared-slice-read-with-granted : tie.Need-shared-slice-read-with-granted Inv-loop μ-loop
 shared-slice-read-with-granted c = omega arith
-
-shared-slice-read-with-granted-2 : tie.Need-shared-slice-read-with-granted-2 Inv-loop μ-loop
-shared-slice-read-with-granted-2 c = omega arith
 
 with-granted-requires : tie.Need-with-granted-requires Inv-loop μ-loop
 with-granted-requires c κs = search needs
@@ -58,9 +58,9 @@ available-bits-spec =
     returns
     sub-with-granted
     cast-with-granted
-    mul-with-granted
+    mul-t12
+    shared-slice-read-t9
     shared-slice-read-with-granted
-    shared-slice-read-with-granted-2
     with-granted-requires
     add-slot
     loop-less

@@ -34,11 +34,11 @@ shared-slice-read-if3 c = search needs
 returns-3 : tie.Need-returns-3
 returns-3 c = λ z p. rw (ne-eqb _ _ (λ e. c .before .before .before .before .if1 .left (c .before .before .before .before .before .bit .ensures ∙ e)), eq-eqb _ _ (c .before .before .if2 .left), ne-eqb _ _ (c .if3 .taken))
 
-mul-is-ownerless : tie.Need-mul-is-ownerless
-mul-is-ownerless c = search needs
+mul-t13 : tie.Need-mul-t13
+mul-t13 c = search needs
 
-slice-read-is-ownerless : tie.Need-slice-read-is-ownerless
-slice-read-is-ownerless c = search needs
+slice-read-t12 : tie.Need-slice-read-t12
+slice-read-t12 c = search needs
 
 is-ownerless-requires : tie.Need-is-ownerless-requires
 is-ownerless-requires c κs = search needs
@@ -75,8 +75,8 @@ try-reclaim-stale-reader-slot-spec =
     returns-2
     shared-slice-read-if3
     returns-3
-    mul-is-ownerless
-    slice-read-is-ownerless
+    mul-t13
+    slice-read-t12
     is-ownerless-requires
     returns-4
     empty-slot-requires

@@ -7,10 +7,10 @@ returns : tie.Need-returns
 returns c = last-not-held _ _ _ _ (c .if1 .taken)
 
 returns-2 : tie.Need-returns-2
-returns-2 c = last-other _ _ _ _ (c .before .if1 .left) (c .if2 .taken)
+returns-2 c = last-other _ _ _ _ (c .before .before .before .if1 .left) (c .if2 .taken)
 
 returns-3 : tie.Need-returns-3
-returns-3 c = last-fine _ _ _ _ (c .before .before .if1 .left) (c .before .if2 .left) (c .if3 .taken)
+returns-3 c = last-fine _ _ _ _ (c .before .before .before .before .before .before .if1 .left) (c .before .before .before .if2 .left) (c .if3 .taken)
 
 enum-told : tie.Need-enum-told
 enum-told c = search needs
@@ -19,10 +19,10 @@ enum-told-2 : tie.Need-enum-told-2
 enum-told-2 c = search needs
 
 returns-4 : tie.Need-returns-4
-returns-4 c = last-ofd _ _ _ _ (c .before .before .before .before .if1 .left) (c .before .before .before .if2 .left) (c .enum-told .given .1)
+returns-4 c = last-ofd _ _ _ _ (c .before .before .before .before .before .before .before .before .if1 .left) (c .before .before .before .before .before .if2 .left) (c .enum-told .given .1)
 
 returns-5 : tie.Need-returns-5
-returns-5 c = last-fcntl _ _ _ _ (c .before .before .before .before .if1 .left) (c .before .before .before .if2 .left) (c .enum-told2 .given .1) (c .before .before .if3 .left)
+returns-5 c = last-fcntl _ _ _ _ (c .before .before .before .before .before .before .before .before .if1 .left) (c .before .before .before .before .before .if2 .left) (c .enum-told2 .given .1) (c .before .before .if3 .left)
 
 pub last-refusal-spec : {M : Type 1} → statement M
 last-refusal-spec =

@@ -25,11 +25,8 @@ bad-card-requires c κs = search needs
 returns-3 : tie.Need-returns-3
 returns-3 c = share-bad-card _ _ _ _ _ _ _ _ _ _ (c .before .before .before .before .before .before .before .before .before .before .before .before .before .before .before .args .seen) _ (c .before .before .before .before .before .before .before .before .share-refusal .ensures) (c .before .before .before .before .before .before .before .if1 .left) _ (c .before .before .before .before .before .place .given .1) (c .before .before .if2 .left) _ (sym (c .before .bad-card .ensures) ∙ c .if3 .taken)
 
-add-kept : tie.Need-add-kept
-add-kept c = omega arith
-
 returns-4 : tie.Need-returns-4
-returns-4 c = share-kept _ _ _ _ _ _ _ _ _ _ (c .before .before .before .before .before .before .before .before .before .before .before .before .before .before .before .before .args .seen) _ (c .before .before .before .before .before .before .before .before .before .share-refusal .ensures) (c .before .before .before .before .before .before .before .before .if1 .left) _ (c .before .before .before .before .before .before .place .given .1) (c .before .before .before .if2 .left) (sym (c .before .before .bad-card .ensures) ∙ c .before .if3 .left)
+returns-4 c = share-kept _ _ _ _ _ _ _ _ _ _ (c .before .before .before .before .before .before .before .before .before .before .before .before .before .before .before .args .seen) _ (c .before .before .before .before .before .before .before .before .share-refusal .ensures) (c .before .before .before .before .before .before .before .if1 .left) _ (c .before .before .before .before .before .place .given .1) (c .before .before .if2 .left) _ (sym (c .before .bad-card .ensures) ∙ c .if3 .left)
 
 enum-told : tie.Need-enum-told
 enum-told c = search needs
@@ -82,11 +79,11 @@ same-length-7 c = search needs
 returns-7 : tie.Need-returns-7
 returns-7 c = new-none _ _ _ _ _ _ _ _ _ _ (c .before .before .before .before .before .before .before .before .before .before .before .before .before .before .before .before .before .before .before .before .before .before .before .before .before .before .before .before .before .args .seen) _ (c .before .before .before .before .before .before .before .before .before .before .before .before .before .before .before .before .before .before .before .before .before .before .share-refusal .ensures) (c .before .before .before .before .before .before .before .before .before .before .before .before .before .before .before .before .before .before .before .before .before .if1 .left) (c .before .before .before .before .before .before .before .before .before .before .before .before .before .before .before .before .before .before .before .enum-told .given .1) (sym (c .before .before .before .before .before .before .before .before .before .before .before .before .before .before .before .before .before .before .bad-card2 .ensures) ∙ c .before .before .before .before .before .before .before .before .before .before .before .before .before .before .before .before .before .if4 .left) _ _ _ _ (c .before .before .before .before .before .before .before .before .before .register-reader .result) (c .before .before .before .before .before .before .before .before .before .register-reader .ensures) (c .match3 .keys2) _ (c .before .before .before .before .before .before .before .before .before .before .before .before .before .before .before .empty .given .1) _
 
-cast-t52 : tie.Need-cast-t52
-cast-t52 c = let h = passed _ _ _ _ _ _ _ _ _ (c .before .before .before .before .before .before .before .before .before .before .before .before .before .before .before .before .before .before .before .before .before .before .before .before .share-refusal .ensures) (c .before .before .before .before .before .before .before .before .before .before .before .before .before .before .before .before .before .before .before .before .before .before .before .if1 .left) in let g = h .room .most in let q = taken-below _ _ _ _ _ _ _ _ _ _ (c .before .before .before .before .before .before .before .before .before .before .before .before .before .before .before .before .before .before .before .before .before .before .before .before .before .before .before .before .before .before .before .args .seen) _ (c .before .before .before .before .before .before .before .before .before .before .before .before .before .before .before .before .before .before .before .before .before .before .before .before .share-refusal .ensures) (c .before .before .before .before .before .before .before .before .before .before .before .before .before .before .before .before .before .before .before .before .before .before .before .if1 .left) (c .before .before .before .before .before .before .before .before .before .before .before .before .before .before .before .before .before .before .before .before .before .enum-told .given .1) (sym (c .before .before .before .before .before .before .before .before .before .before .before .before .before .before .before .before .before .before .before .before .bad-card2 .ensures) ∙ c .before .before .before .before .before .before .before .before .before .before .before .before .before .before .before .before .before .before .before .if4 .left) _ _ _ _ (c .before .before .before .before .before .before .before .before .before .before .before .register-reader .result) (c .before .before .before .before .before .before .before .before .before .before .before .register-reader .ensures) _ (c .before .slot .given .1) in omega (arith, g, q)
+cast-t50 : tie.Need-cast-t50
+cast-t50 c = let h = passed _ _ _ _ _ _ _ _ _ (c .before .before .before .before .before .before .before .before .before .before .before .before .before .before .before .before .before .before .before .before .before .before .before .before .share-refusal .ensures) (c .before .before .before .before .before .before .before .before .before .before .before .before .before .before .before .before .before .before .before .before .before .before .before .if1 .left) in let g = h .room .most in let q = taken-below _ _ _ _ _ _ _ _ _ _ (c .before .before .before .before .before .before .before .before .before .before .before .before .before .before .before .before .before .before .before .before .before .before .before .before .before .before .before .before .before .before .before .args .seen) _ (c .before .before .before .before .before .before .before .before .before .before .before .before .before .before .before .before .before .before .before .before .before .before .before .before .share-refusal .ensures) (c .before .before .before .before .before .before .before .before .before .before .before .before .before .before .before .before .before .before .before .before .before .before .before .if1 .left) (c .before .before .before .before .before .before .before .before .before .before .before .before .before .before .before .before .before .before .before .before .before .enum-told .given .1) (sym (c .before .before .before .before .before .before .before .before .before .before .before .before .before .before .before .before .before .before .before .before .bad-card2 .ensures) ∙ c .before .before .before .before .before .before .before .before .before .before .before .before .before .before .before .before .before .before .before .if4 .left) _ _ _ _ (c .before .before .before .before .before .before .before .before .before .before .before .register-reader .result) (c .before .before .before .before .before .before .before .before .before .before .before .register-reader .ensures) _ (c .before .slot .given .1) in omega (arith, g, q)
 
-cast-t52-2 : tie.Need-cast-t52-2
-cast-t52-2 c = let h = passed _ _ _ _ _ _ _ _ _ (c .before .before .before .before .before .before .before .before .before .before .before .before .before .before .before .before .before .before .before .before .before .before .before .before .share-refusal .ensures) (c .before .before .before .before .before .before .before .before .before .before .before .before .before .before .before .before .before .before .before .before .before .before .before .if1 .left) in let g = h .room .most in let q = taken-below _ _ _ _ _ _ _ _ _ _ (c .before .before .before .before .before .before .before .before .before .before .before .before .before .before .before .before .before .before .before .before .before .before .before .before .before .before .before .before .before .before .before .args .seen) _ (c .before .before .before .before .before .before .before .before .before .before .before .before .before .before .before .before .before .before .before .before .before .before .before .before .share-refusal .ensures) (c .before .before .before .before .before .before .before .before .before .before .before .before .before .before .before .before .before .before .before .before .before .before .before .if1 .left) (c .before .before .before .before .before .before .before .before .before .before .before .before .before .before .before .before .before .before .before .before .before .enum-told .given .1) (sym (c .before .before .before .before .before .before .before .before .before .before .before .before .before .before .before .before .before .before .before .before .bad-card2 .ensures) ∙ c .before .before .before .before .before .before .before .before .before .before .before .before .before .before .before .before .before .before .before .if4 .left) _ _ _ _ (c .before .before .before .before .before .before .before .before .before .before .before .register-reader .result) (c .before .before .before .before .before .before .before .before .before .before .before .register-reader .ensures) _ (c .before .slot .given .1) in omega (arith, g, q)
+cast-t51 : tie.Need-cast-t51
+cast-t51 c = let h = passed _ _ _ _ _ _ _ _ _ (c .before .before .before .before .before .before .before .before .before .before .before .before .before .before .before .before .before .before .before .before .before .before .before .before .share-refusal .ensures) (c .before .before .before .before .before .before .before .before .before .before .before .before .before .before .before .before .before .before .before .before .before .before .before .if1 .left) in let g = h .room .most in let q = taken-below _ _ _ _ _ _ _ _ _ _ (c .before .before .before .before .before .before .before .before .before .before .before .before .before .before .before .before .before .before .before .before .before .before .before .before .before .before .before .before .before .before .before .args .seen) _ (c .before .before .before .before .before .before .before .before .before .before .before .before .before .before .before .before .before .before .before .before .before .before .before .before .share-refusal .ensures) (c .before .before .before .before .before .before .before .before .before .before .before .before .before .before .before .before .before .before .before .before .before .before .before .if1 .left) (c .before .before .before .before .before .before .before .before .before .before .before .before .before .before .before .before .before .before .before .before .before .enum-told .given .1) (sym (c .before .before .before .before .before .before .before .before .before .before .before .before .before .before .before .before .before .before .before .before .bad-card2 .ensures) ∙ c .before .before .before .before .before .before .before .before .before .before .before .before .before .before .before .before .before .before .before .if4 .left) _ _ _ _ (c .before .before .before .before .before .before .before .before .before .before .before .register-reader .result) (c .before .before .before .before .before .before .before .before .before .before .before .register-reader .ensures) _ (c .before .slot .given .1) in omega (arith, g, q)
 
 same-length-8 : tie.Need-same-length-8
 same-length-8 c = search needs
@@ -113,7 +110,6 @@ share-plan-spec =
     returns-2
     bad-card-requires
     returns-3
-    add-kept
     returns-4
     enum-told
     bad-card-requires-2
@@ -132,8 +128,8 @@ share-plan-spec =
     same-length-6
     same-length-7
     returns-7
-    cast-t52
-    cast-t52-2
+    cast-t50
+    cast-t51
     same-length-8
     same-length-9
     same-length-10

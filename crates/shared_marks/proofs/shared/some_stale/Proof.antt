@@ -30,20 +30,20 @@ cast-bit c = omega arith
 bit-requires : tie.Need-bit-requires Inv-loop μ-loop
 bit-requires c κs = omega arith
 
-mul-is-stale : tie.Need-mul-is-stale Inv-loop μ-loop
-mul-is-stale c = omega arith
+mul-t10 : tie.Need-mul-t10 Inv-loop μ-loop
+mul-t10 c = omega arith
+
+shared-slice-read-t13 : tie.Need-shared-slice-read-t13 Inv-loop μ-loop
+shared-slice-read-t13 c = omega arith
+
+mul-t11 : tie.Need-mul-t11 Inv-loop μ-loop
+mul-t11 c = omega arith
+
+shared-slice-read-t20 : tie.Need-shared-slice-read-t20 Inv-loop μ-loop
+shared-slice-read-t20 c = omega arith
 
 shared-slice-read-is-stale : tie.Need-shared-slice-read-is-stale Inv-loop μ-loop
 shared-slice-read-is-stale c = omega arith
-
-mul-is-stale-2 : tie.Need-mul-is-stale-2 Inv-loop μ-loop
-mul-is-stale-2 c = omega arith
-
-shared-slice-read-is-stale-2 : tie.Need-shared-slice-read-is-stale-2 Inv-loop μ-loop
-shared-slice-read-is-stale-2 c = omega arith
-
-shared-slice-read-is-stale-3 : tie.Need-shared-slice-read-is-stale-3 Inv-loop μ-loop
-shared-slice-read-is-stale-3 c = omega arith
 
 is-stale-requires : tie.Need-is-stale-requires Inv-loop μ-loop
 is-stale-requires c κs = search needs
@@ -74,11 +74,11 @@ some-stale-spec =
     shared-slice-read-bit
     cast-bit
     bit-requires
-    mul-is-stale
+    mul-t10
+    shared-slice-read-t13
+    mul-t11
+    shared-slice-read-t20
     shared-slice-read-is-stale
-    mul-is-stale-2
-    shared-slice-read-is-stale-2
-    shared-slice-read-is-stale-3
     is-stale-requires
     returns
     add-slot

@@ -1,0 +1,2 @@
+-- Answers that are neither found nor refused.
+mod Neither
