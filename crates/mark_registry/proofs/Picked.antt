@@ -9,7 +9,7 @@ use Rattle.wal_types.specs.declared.SharedReadMark.{SharedReadMark}
 use Rattle.mark_registry.specs.declared.Wanted.{Wanted}
 use Rattle.mark_registry.specs.declared.Wanted.the-variants.{Mark, Slot, Empty}
 use Rattle.mark_registry.specs.Registry.{is-empty}
-use Rattle.mark_registry.specs.Scan.{picks, wants-use, none-picked}
+use Rattle.mark_registry.specs.InnerScan.{picks, wants-use, none-picked}
 
 module _ (wanted : Wanted) (m : SharedReadMark) (k : ℕ) where
   pub mark-used : wanted ≡ Mark k → (m .holders ≡ 0 → ⊥) → eqb (m .mark) k ≡ picks wanted m

@@ -17,7 +17,7 @@ use Rattle.mark_registry.specs.declared.Wanted.{Wanted}
 use Rattle.mark_registry.specs.declared.Wanted.the-variants.{Mark, Slot, Empty}
 use Rattle.mark_registry.specs.declared.Found.{Found}
 use Rattle.mark_registry.specs.Registry.{first-record, record-of, empty-record}
-use Rattle.mark_registry.specs.Scan.{picks, none-picked, nothing-found, found-here, found-at, found-of, is-found, seen-alone, seen-with, empty-unless, item-at, seen-of}
+use Rattle.mark_registry.specs.InnerScan.{picks, none-picked, nothing-found, found-here, found-at, found-of, is-found, seen-alone, seen-with, empty-unless, item-at, seen-of}
 
 -- the first record found, with one record more at the end
 abbrev first-of : Record → Bool → ℕ → Record

@@ -1,3 +1,4 @@
--- The registry of shared marks, and scans of it.
+-- The registry of shared marks; scans of it, and changes of one record.
 pub mod Registry
-pub mod Scan
+pub mod InnerScan
+pub mod InnerChange

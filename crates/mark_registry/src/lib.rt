@@ -8,8 +8,9 @@ ghost use Prim.Native.Nat.{min};
 ghost use lib.ListN.{length};
 ghost use Rattle.reader_slots.specs.Slots.{in-registry};
 ghost use Rattle.mark_registry.specs.declared.Wanted.the-variants.{Mark, Slot, Empty};
-ghost use Rattle.mark_registry.specs.Registry.{is-empty, one-less, one-more-below, first-held, retained, published, released};
-ghost use Rattle.mark_registry.specs.Scan.{picks, wants-use, none-picked, nothing-found, found-here, found-of, is-found, seen-alone, seen-with, seen-of};
+ghost use Rattle.mark_registry.specs.Registry.{is-empty, one-less};
+ghost use Rattle.mark_registry.specs.InnerChange.{one-more-below, first-held, retained, published, released};
+ghost use Rattle.mark_registry.specs.InnerScan.{picks, wants-use, none-picked, nothing-found, found-here, found-of, is-found, seen-alone, seen-with, seen-of};
 
 // A record of the registry found, or none.
 pub enum Record {

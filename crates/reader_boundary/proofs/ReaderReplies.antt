@@ -12,7 +12,7 @@ use Rattle.reader_moves.specs.Update.{unregister-reader}
 use Rattle.reader_floor.specs.Floor.{min-active-reader-frame, has-active-db-file-reader}
 use Rattle.reader_limit.specs.Limit.{copy-back-limit, LimitCall}
 use Rattle.shared_marks.specs.Shared.{register-reader-for-snapshot, unregister-reader-for-snapshot, SharedCall}
-use Rattle.registry_calls.specs.Direct.{DirectMove}
+use Rattle.registry_calls.specs.InnerDirect.{DirectMove}
 use Rattle.replies.specs.declared.Mode.{Mode}
 use Rattle.replies.specs.declared.Mode.the-variants.{Given, Unknown}
 use Rattle.reader_replies.specs.declared.Settings.{Settings}

@@ -9,7 +9,7 @@ use Rattle.wal_types.specs.Call.{Call, Answer}
 use Rattle.reader_slots.specs.Slots.{in-registry}
 use Rattle.reader_moves.specs.Update.{MoveCall, ReleaseCall}
 use Rattle.shared_marks.specs.Shared.{registry-in, SharedCall}
-use Rattle.registry_calls.specs.Direct.{DirectMove}
+use Rattle.registry_calls.specs.InnerDirect.{DirectMove}
 
 module _ (n slot : ℕ) (shared : Bool) (r : List SharedReadMark) (e : shared ≡ in-registry n r slot) (call : Call) where
   pub released : (b f o l : List ℕ) (a : Answer) (b′ f′ o′ l′ : List ℕ) → ReleaseCall n slot shared (length r) call b f o l a b′ f′ o′ l′ → SharedCall call b f o l r a b′ f′ o′ l′ r

@@ -1,2 +1,2 @@
 -- Calls that are lent the registry and leave it as it is.
-pub mod Direct
+pub mod InnerDirect

@@ -7,7 +7,7 @@ use wal_types::SharedReadMark;
 use wal_types::SharedWalOwnershipMode;
 ghost use Rattle.reader_moves.specs.Update.{update-reader, update-answer, unregister-reader, release-answer};
 ghost use Rattle.shared_marks.specs.Shared.{SharedCall};
-ghost use Rattle.registry_calls.specs.Direct.{DirectMove};
+ghost use Rattle.registry_calls.specs.InnerDirect.{DirectMove};
 
 // Moves a reader to another mark.
 pub fn update_reader(

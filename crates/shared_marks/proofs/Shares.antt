@@ -35,9 +35,10 @@ use Rattle.mark_registry.specs.declared.Record.the-variants.{At, Nothing}
 use Rattle.mark_registry.specs.declared.Seen.{Seen}
 use Rattle.shared_marks.specs.declared.shared.Share.{Share}
 use Rattle.shared_marks.specs.declared.shared.Share.the-variants.{NoSlot as NotTaken, Refused as NotShared}
-use Rattle.mark_registry.specs.Registry.{record-of, empty-record, one-more-below, first-held, retained, published}
+use Rattle.mark_registry.specs.Registry.{record-of, empty-record}
+use Rattle.mark_registry.specs.InnerChange.{one-more-below, first-held, retained, published}
 use Rattle.shared_marks.specs.Shared.{no-record, no-room, share-tests, new-record, shares, register-reader-for-snapshot, share-answer, registry-in}
-use Rattle.mark_registry.specs.Scan.{item-at, seen-of}
+use Rattle.mark_registry.specs.InnerScan.{item-at, seen-of}
 use Rattle.shared_marks.specs.Inner.{share-refusal, stale-by, no-record-answer, PlanCall}
 use Rattle.shared_marks.proofs.Refused.{Passed, passed}
 use Rattle.shared_marks.proofs.Stale.{none-stale, nothing-stored, some-true}

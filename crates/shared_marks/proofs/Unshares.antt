@@ -22,9 +22,10 @@ use Rattle.reader_slots.specs.Inner.{slots-refusal, SlotsBecome}
 use Rattle.reader_slots.proofs.Calls.{refuses, accepts, release-one-or-two, release-neither}
 use Rattle.mark_registry.specs.declared.Record.the-variants.{At, Nothing}
 use Rattle.mark_registry.specs.declared.Seen.{Seen}
-use Rattle.mark_registry.specs.Registry.{record-of, one-less, released}
+use Rattle.mark_registry.specs.Registry.{record-of, one-less}
+use Rattle.mark_registry.specs.InnerChange.{released}
 use Rattle.shared_marks.specs.Shared.{registered, last-holder, unshare-tests, unshares, unregister-reader-for-snapshot, registry-in}
-use Rattle.mark_registry.specs.Scan.{item-at, seen-of}
+use Rattle.mark_registry.specs.InnerScan.{item-at, seen-of}
 use Rattle.shared_marks.specs.Inner.{mark-refusal, last-refusal, PlanCall}
 use Rattle.shared_marks.proofs.Shares.{seen-parts}
 

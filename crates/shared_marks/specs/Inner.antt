@@ -16,7 +16,7 @@ use Rattle.reader_slots.specs.Slots.{shorter}
 use Rattle.reader_slots.specs.Search.{found-slot, lowest-slot, some-slot}
 use Rattle.reader_slots.specs.Inner.{available-by}
 use Rattle.mark_registry.specs.declared.Seen.{Seen}
-use Rattle.mark_registry.specs.Scan.{seen-of}
+use Rattle.mark_registry.specs.InnerScan.{seen-of}
 use Rattle.shared_marks.specs.declared.shared.Share.{Share}
 use Rattle.shared_marks.specs.declared.shared.Share.the-variants.{NoSlot as NotTaken, Refused as NotShared}
 use Rattle.shared_marks.specs.Shared.{SharedCall}

@@ -17,7 +17,7 @@ ghost use Prim.Native.Nat.{_+_, _/_, _≤_};
 ghost use lib.ListN.{length};
 ghost use Rattle.reader_slots.specs.Search.{some-slot};
 ghost use Rattle.reader_moves.specs.Update.{release-answer};
-ghost use Rattle.mark_registry.specs.Registry.{retained, published, released};
+ghost use Rattle.mark_registry.specs.InnerChange.{retained, published, released};
 ghost use Rattle.shared_marks.specs.Shared.{register-reader-for-snapshot, unregister-reader-for-snapshot, share-answer};
 ghost use Rattle.shared_marks.specs.Inner.{share-refusal, stale-cell, stale-by, no-record-answer, mark-refusal, last-refusal, PlanCall};
 

@@ -56,7 +56,7 @@ use Rattle.wal_types.proofs.SharedReadMark as T
 use Rattle.wal_types.proofs.SharedReadMark.Laws as T′
 use Rattle.mark_registry.specs.declared.Wanted.{Wanted}
 use Rattle.mark_registry.specs.declared.Found.{Found}
-use Rattle.mark_registry.specs.Scan.{picks, none-picked, nothing-found, found-here, found-of}
+use Rattle.mark_registry.specs.InnerScan.{picks, none-picked, nothing-found, found-here, found-of}
 use Rattle.mark_registry.specs.Registry.{first-record}
 use Rattle.mark_registry.proofs.Scan.{stop-at, stop-zero, stop-next, stop-four, stop-within, found-there, found-nothing, four-parts}
 use Rattle.mark_registry.proofs.Found as F

@@ -44,7 +44,7 @@ use denote.Triple.Walked.{says, Stays, stay-none, stay-none-slice, walkOf, Walks
 use Rattle.wal_types.specs.declared.SharedReadMark.{SharedReadMark}
 use Rattle.wal_types.proofs.SharedReadMark as T
 use Rattle.mark_registry.specs.declared.Wanted.the-variants.{Mark, Empty}
-use Rattle.mark_registry.specs.Scan.{picks, found-of, is-found, seen-alone, seen-with, seen-of}
+use Rattle.mark_registry.specs.InnerScan.{picks, found-of, is-found, seen-alone, seen-with, seen-of}
 use Rattle.mark_registry.proofs.Scan.{alone-seen, both-seen}
 use Rattle.mark_registry.specs.declared.Found.{Found}
 use Rattle.mark_registry.proofs.Found as F

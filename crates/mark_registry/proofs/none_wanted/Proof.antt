@@ -1,6 +1,6 @@
 use mathlib.Core.Path.{sym, _∙_}
 use borrow.Author.Needs.{needs}
-use Rattle.mark_registry.specs.Scan.{none-picked}
+use Rattle.mark_registry.specs.InnerScan.{none-picked}
 use Rattle.mark_registry.proofs.Picked.{none-in-use}
 use Rattle.mark_registry.proofs.none_wanted.Statement.{statement}
 use Rattle.mark_registry.proofs.none_wanted.Tie as tie

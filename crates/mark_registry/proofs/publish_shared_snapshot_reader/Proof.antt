@@ -51,7 +51,7 @@ use Rattle.wal_types.proofs.SharedReadMark as T
 use Rattle.wal_types.proofs.SharedReadMark.Laws as T′
 use Rattle.wal_types.proofs.SharedOwnerRecord as O
 use Rattle.wal_types.proofs.SharedOwnerRecord.Laws as O′
-use Rattle.mark_registry.specs.Registry.{first-held}
+use Rattle.mark_registry.specs.InnerChange.{first-held}
 use Rattle.mark_registry.proofs.first_held as core
 use Rattle.mark_registry.proofs.first_held.Symbol as core-def
 use Rattle.mark_registry.proofs.first_held.Symbol.{name as #mark-registry·first-held}

@@ -3,7 +3,7 @@ use mathlib.Core.Path.{refl}
 use contract.Running.{givenOf, tables, tablesOf}
 use denote.Triple.Spec.{tripleOf}
 use denote.Triple.Table.{entered, cited}
-use Rattle.mark_registry.specs.Registry.{one-more-below}
+use Rattle.mark_registry.specs.InnerChange.{one-more-below}
 use Rattle.mark_registry.proofs.with_holder_more.Symbol as core
 use Rattle.mark_registry.proofs.with_holder_more.Met as core-thm
 use Rattle.mark_registry.proofs.Changes.{Core, entry-meets}

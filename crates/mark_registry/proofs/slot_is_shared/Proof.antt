@@ -43,7 +43,7 @@ use Rattle.wal_types.specs.declared.SharedReadMark.{SharedReadMark}
 use Rattle.wal_types.proofs.SharedReadMark as T
 use Rattle.reader_slots.specs.Slots.{in-registry}
 use Rattle.mark_registry.specs.declared.Wanted.the-variants.{Slot}
-use Rattle.mark_registry.specs.Scan.{picks, found-of, is-found}
+use Rattle.mark_registry.specs.InnerScan.{picks, found-of, is-found}
 use Rattle.mark_registry.proofs.Scan.{shared-found}
 use Rattle.mark_registry.specs.declared.Found.{Found}
 use Rattle.mark_registry.proofs.Found as F

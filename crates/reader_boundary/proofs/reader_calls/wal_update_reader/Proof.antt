@@ -43,7 +43,7 @@ use Rattle.wal_types.specs.declared.SharedReadMark.{SharedReadMark}
 use Rattle.wal_types.specs.declared.SharedOwnerRecord.{SharedOwnerRecord}
 use Rattle.wal_types.proofs.SharedOwnerRecord as O
 use Rattle.wal_types.proofs.SharedOwnerRecord.Laws as O′
-use Rattle.registry_calls.specs.Direct.{DirectMove}
+use Rattle.registry_calls.specs.InnerDirect.{DirectMove}
 use Rattle.reader_moves.specs.Update.{update-reader, update-answer}
 use Rattle.reader_moves.specs.declared.update.Update.{Update}
 use Rattle.reader_replies.specs.declared.ReaderReply.{ReaderReply}

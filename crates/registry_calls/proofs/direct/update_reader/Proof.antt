@@ -46,7 +46,7 @@ use Rattle.wal_types.proofs.SharedOwnerRecord as O
 use Rattle.wal_types.proofs.SharedOwnerRecord.Laws as O′
 use Rattle.reader_moves.specs.declared.update.Update.{Update}
 use Rattle.reader_moves.specs.Update.{update-reader, update-answer, MoveCall}
-use Rattle.registry_calls.specs.Direct.{DirectMove}
+use Rattle.registry_calls.specs.InnerDirect.{DirectMove}
 use Rattle.reader_slots.specs.Slots.{in-registry}
 use Rattle.registry_calls.proofs.Directed.{moved}
 use Rattle.reader_moves.proofs.update.Update as S

@@ -56,8 +56,8 @@ use Rattle.mark_registry.specs.declared.Seen.{Seen}
 use Rattle.shared_marks.specs.declared.shared.SharePlan.{SharePlan}
 use Rattle.shared_marks.specs.declared.shared.Share.{Share as Answered}
 use Rattle.shared_marks.specs.Shared.{register-reader-for-snapshot, share-answer, SharedCall}
-use Rattle.mark_registry.specs.Registry.{retained, published}
-use Rattle.mark_registry.specs.Scan.{seen-of}
+use Rattle.mark_registry.specs.InnerChange.{retained, published}
+use Rattle.mark_registry.specs.InnerScan.{seen-of}
 use Rattle.shared_marks.specs.Inner.{PlanCall}
 use Rattle.registry_calls.proofs.Again.{LentAgain, lends-again, comes-back}
 use Rattle.registry_calls.proofs.Planned.{planned}

@@ -57,8 +57,8 @@ use Rattle.shared_marks.specs.declared.shared.UnsharePlan.{UnsharePlan}
 use Rattle.reader_moves.specs.declared.update.Release.{Release}
 use Rattle.reader_moves.specs.Update.{release-answer}
 use Rattle.shared_marks.specs.Shared.{unregister-reader-for-snapshot, SharedCall}
-use Rattle.mark_registry.specs.Registry.{released}
-use Rattle.mark_registry.specs.Scan.{seen-of}
+use Rattle.mark_registry.specs.InnerChange.{released}
+use Rattle.mark_registry.specs.InnerScan.{seen-of}
 use Rattle.shared_marks.specs.Inner.{PlanCall}
 use Rattle.registry_calls.proofs.Planned.{planned}
 use Rattle.mark_registry.proofs.Seen as N
