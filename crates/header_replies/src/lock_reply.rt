@@ -33,13 +33,13 @@ pub struct LockLeft {
     pub reply: LockReply,
 }
 
-fn owners_of(refusal: u32, answer: u32, local_owner: u64, header: Header) -> Owners
-    ensures { λ r. ⌜ r ≡ owners-of refusal answer «local_owner» header ⌝ }
+fn owners_of(refusal: u32, answer: u32, local_owner: SharedOwnerRecord, header: Header) -> Owners
+    ensures { λ r. ⌜ r ≡ owners-of refusal answer («local_owner» .0) header ⌝ }
 {
     let reply = LockReply {
         refusal: refusal,
         answer: answer,
-        local_owner: local_owner,
+        local_owner: local_owner.0,
     };
     Owners {
         reply: reply,
@@ -48,21 +48,21 @@ fn owners_of(refusal: u32, answer: u32, local_owner: u64, header: Header) -> Own
     }
 }
 
-fn acquired(answer: Acquire, header: Header, local_owner: u64) -> Owners
-    ensures { λ r. ⌜ r ≡ acquire-owners answer header «local_owner» ⌝ }
+fn acquired(answer: Acquire, header: Header, local_owner: SharedOwnerRecord) -> Owners
+    ensures { λ r. ⌜ r ≡ acquire-owners answer header («local_owner» .0) ⌝ }
 {
     match answer {
-        Acquire::Taken(next, owner) => owners_of(0, 1, owner.0, next),
+        Acquire::Taken(next, owner) => owners_of(0, 1, owner, next),
         Acquire::Busy => owners_of(0, 0, local_owner, header),
         Acquire::Refused(number) => owners_of(number, 0, local_owner, header),
     }
 }
 
-fn released(answer: Release, header: Header, local_owner: u64) -> Owners
-    ensures { λ r. ⌜ r ≡ release-owners answer header «local_owner» ⌝ }
+fn released(answer: Release, header: Header, local_owner: SharedOwnerRecord) -> Owners
+    ensures { λ r. ⌜ r ≡ release-owners answer header («local_owner» .0) ⌝ }
 {
     match answer {
-        Release::Released(next, owner) => owners_of(0, 1, owner.0, next),
+        Release::Released(next, owner) => owners_of(0, 1, owner, next),
         Release::Refused(number) => owners_of(number, 0, local_owner, header),
     }
 }
@@ -84,66 +84,60 @@ fn left(header: Header, owners: Owners) -> LockLeft
 pub fn try_acquire_writer(header: Header, local_owner: u64, owner: u64, card: u8) -> LockLeft
     ensures { λ r. ⌜ LockReplied Writer (try-acquire Writer owner card) header «local_owner» (r .header) (r .reply) ⌝ }
 {
-    let answer = locks::try_acquire_writer(
-        header,
-        SharedOwnerRecord(local_owner),
-        SharedOwnerRecord(owner),
-        card,
-    );
-    left(header, acquired(answer, header, local_owner))
+    let held = SharedOwnerRecord(local_owner);
+    let answer = locks::try_acquire_writer(header, held, SharedOwnerRecord(owner), card);
+    left(header, acquired(answer, header, held))
 }
 
 pub fn try_acquire_checkpoint(header: Header, local_owner: u64, owner: u64, card: u8) -> LockLeft
     ensures { λ r. ⌜ LockReplied Checkpoint (try-acquire Checkpoint owner card) header «local_owner» (r .header) (r .reply) ⌝ }
 {
-    let answer = locks::try_acquire_checkpoint(
-        header,
-        SharedOwnerRecord(local_owner),
-        SharedOwnerRecord(owner),
-        card,
-    );
-    left(header, acquired(answer, header, local_owner))
+    let held = SharedOwnerRecord(local_owner);
+    let answer = locks::try_acquire_checkpoint(header, held, SharedOwnerRecord(owner), card);
+    left(header, acquired(answer, header, held))
 }
 
 // The core's answer, with the mode read from its number: refused if there is no such mode.
-fn writer_released(mode: u32, header: Header, local_owner: u64, owner: u64) -> Release
-    ensures { λ r. ⌜ LockCall Writer (with-mode (mode-given mode) (λ given. release Writer given owner)) header «local_owner» (release-answer r) (release-header header r) (release-local «local_owner» r) ⌝ }
+fn writer_released(
+    mode: u32,
+    header: Header,
+    local_owner: SharedOwnerRecord,
+    owner: SharedOwnerRecord,
+) -> Release
+    ensures { λ r. ⌜ LockCall Writer (with-mode (mode-given mode) (λ given. release Writer given (owner .0))) header («local_owner» .0) (release-answer r) (release-header header r) (release-local («local_owner» .0) r) ⌝ }
 {
     let Mode::Given(given) = replies::mode_of(mode) else {
         return Release::Refused(1);
     };
-    locks::release_writer(
-        given,
-        header,
-        SharedOwnerRecord(local_owner),
-        SharedOwnerRecord(owner),
-    )
+    locks::release_writer(given, header, local_owner, owner)
 }
 
-fn checkpoint_released(mode: u32, header: Header, local_owner: u64, owner: u64) -> Release
-    ensures { λ r. ⌜ LockCall Checkpoint (with-mode (mode-given mode) (λ given. release Checkpoint given owner)) header «local_owner» (release-answer r) (release-header header r) (release-local «local_owner» r) ⌝ }
+fn checkpoint_released(
+    mode: u32,
+    header: Header,
+    local_owner: SharedOwnerRecord,
+    owner: SharedOwnerRecord,
+) -> Release
+    ensures { λ r. ⌜ LockCall Checkpoint (with-mode (mode-given mode) (λ given. release Checkpoint given (owner .0))) header («local_owner» .0) (release-answer r) (release-header header r) (release-local («local_owner» .0) r) ⌝ }
 {
     let Mode::Given(given) = replies::mode_of(mode) else {
         return Release::Refused(1);
     };
-    locks::release_checkpoint(
-        given,
-        header,
-        SharedOwnerRecord(local_owner),
-        SharedOwnerRecord(owner),
-    )
+    locks::release_checkpoint(given, header, local_owner, owner)
 }
 
 pub fn release_writer(mode: u32, header: Header, local_owner: u64, owner: u64) -> LockLeft
     ensures { λ r. ⌜ LockReplied Writer (with-mode (mode-given mode) (λ given. release Writer given owner)) header «local_owner» (r .header) (r .reply) ⌝ }
 {
-    let answer = writer_released(mode, header, local_owner, owner);
-    left(header, released(answer, header, local_owner))
+    let held = SharedOwnerRecord(local_owner);
+    let answer = writer_released(mode, header, held, SharedOwnerRecord(owner));
+    left(header, released(answer, header, held))
 }
 
 pub fn release_checkpoint(mode: u32, header: Header, local_owner: u64, owner: u64) -> LockLeft
     ensures { λ r. ⌜ LockReplied Checkpoint (with-mode (mode-given mode) (λ given. release Checkpoint given owner)) header «local_owner» (r .header) (r .reply) ⌝ }
 {
-    let answer = checkpoint_released(mode, header, local_owner, owner);
-    left(header, released(answer, header, local_owner))
+    let held = SharedOwnerRecord(local_owner);
+    let answer = checkpoint_released(mode, header, held, SharedOwnerRecord(owner));
+    left(header, released(answer, header, held))
 }

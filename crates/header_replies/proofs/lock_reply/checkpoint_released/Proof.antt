@@ -19,7 +19,7 @@ enum-told c = search needs
 returns : tie.Need-returns
 returns c =
     let a = c .before .before .before .args in
-    unknown-call Checkpoint (λ given. release Checkpoint given (a .owner)) (a .header) (a .local-owner) (mode-given (a .mode)) (sym (c .before .before .mode-of .ensures) ∙ c .enum-told .given .1)
+    unknown-call Checkpoint (λ given. release Checkpoint given (a .owner .0)) (a .header) (a .local-owner .0) (mode-given (a .mode)) (sym (c .before .before .mode-of .ensures) ∙ c .enum-told .given .1)
 
 release-checkpoint-requires : tie.Need-release-checkpoint-requires
 release-checkpoint-requires c κs = search needs
@@ -28,7 +28,7 @@ returns-2 : tie.Need-returns-2
 returns-2 c =
     let a = c .before .before .before .before .before .args in
     let r = c .release-checkpoint .result in
-    given-call Checkpoint (λ given. release Checkpoint given (a .owner)) (a .header) (a .local-owner) (mode-given (a .mode)) _ (release-answer r) (release-header (a .header) r) (release-local (a .local-owner) r) (sym (c .before .before .before .before .mode-of .ensures) ∙ c .before .before .given .given .1) (c .release-checkpoint .ensures)
+    given-call Checkpoint (λ given. release Checkpoint given (a .owner .0)) (a .header) (a .local-owner .0) (mode-given (a .mode)) _ (release-answer r) (release-header (a .header) r) (release-local (a .local-owner .0) r) (sym (c .before .before .before .before .mode-of .ensures) ∙ c .before .before .given .given .1) (c .release-checkpoint .ensures)
 
 pub checkpoint-released-spec : {M : Type 1} → statement M
 checkpoint-released-spec =

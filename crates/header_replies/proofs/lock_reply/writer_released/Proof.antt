@@ -19,7 +19,7 @@ enum-told c = search needs
 returns : tie.Need-returns
 returns c =
     let a = c .before .before .before .args in
-    unknown-call Writer (λ given. release Writer given (a .owner)) (a .header) (a .local-owner) (mode-given (a .mode)) (sym (c .before .before .mode-of .ensures) ∙ c .enum-told .given .1)
+    unknown-call Writer (λ given. release Writer given (a .owner .0)) (a .header) (a .local-owner .0) (mode-given (a .mode)) (sym (c .before .before .mode-of .ensures) ∙ c .enum-told .given .1)
 
 release-writer-requires : tie.Need-release-writer-requires
 release-writer-requires c κs = search needs
@@ -28,7 +28,7 @@ returns-2 : tie.Need-returns-2
 returns-2 c =
     let a = c .before .before .before .before .before .args in
     let r = c .release-writer .result in
-    given-call Writer (λ given. release Writer given (a .owner)) (a .header) (a .local-owner) (mode-given (a .mode)) _ (release-answer r) (release-header (a .header) r) (release-local (a .local-owner) r) (sym (c .before .before .before .before .mode-of .ensures) ∙ c .before .before .given .given .1) (c .release-writer .ensures)
+    given-call Writer (λ given. release Writer given (a .owner .0)) (a .header) (a .local-owner .0) (mode-given (a .mode)) _ (release-answer r) (release-header (a .header) r) (release-local (a .local-owner .0) r) (sym (c .before .before .before .before .mode-of .ensures) ∙ c .before .before .given .given .1) (c .release-writer .ensures)
 
 pub writer-released-spec : {M : Type 1} → statement M
 writer-released-spec =
