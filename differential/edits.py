@@ -4,6 +4,7 @@ import os
 import shutil
 import subprocess
 import tempfile
+from concurrent.futures import ThreadPoolExecutor
 from pathlib import Path
 
 from rattle_to_rust import STD, translated
@@ -90,6 +91,21 @@ class Version:
         self.texts = texts
         self.folder = folder
         compiled(crates, texts, folder, "--crate-type", kind)
+
+
+def each(edits, tried):
+    """What becomes of each edit, in their order. tried is given its label, its crate, its file and a folder of its own.
+    As many are tried at once as the machine has processors."""
+
+    def in_folder(edit):
+        with tempfile.TemporaryDirectory() as folder:
+            try:
+                return tried(*edit, Path(folder))
+            except subprocess.CalledProcessError:
+                raise SystemExit(f"{edit[0]}: what it makes of the sources does not compile")
+
+    with ThreadPoolExecutor(os.cpu_count()) as pool:
+        yield from zip(edits, pool.map(in_folder, edits))
 
 
 def compared(words, env):
