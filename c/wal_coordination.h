@@ -40,7 +40,7 @@
  *
  * Every call ends. A refused call answers the number of its refusal alone and changes nothing (docs/REFUSALS.md); 0
  * means accepted. The comment of a function is its contract in words; the contract itself is in the source of
- * crates/header_boundary, crates/index_boundary and crates/reader_boundary. */
+ * crates/c_header, crates/c_index and crates/c_readers. */
 #ifndef WAL_COORDINATION_H
 #define WAL_COORDINATION_H
 

@@ -97,7 +97,7 @@ def rust(text):
 
 
 # The crates with the C functions. Together they are the static library.
-BOUNDARIES = ["header_boundary", "index_boundary", "reader_boundary"]
+BOUNDARIES = ["c_header", "c_index", "c_readers"]
 
 
 def crates_of(root, names):

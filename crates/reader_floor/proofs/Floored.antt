@@ -9,17 +9,17 @@ use Rattle.wal_types.specs.Memory.{Memory, Process}
 use Rattle.wal_types.specs.Refusal.{Test, _if_, lowest, card, probe}
 use Rattle.wal_types.specs.Call.{Call, refused, none, frame-found, flag, does}
 use Rattle.reader_slots.specs.declared.slots.Slot.{Slot}
-use Rattle.live_readers.specs.declared.live.Floor.{Floor}
-use Rattle.live_readers.specs.declared.live.Floor.the-variants.{Mark, NoMark}
+use Rattle.reader_probe.specs.declared.live.Floor.{Floor}
+use Rattle.reader_probe.specs.declared.live.Floor.the-variants.{Mark, NoMark}
 use Rattle.reader_slots.specs.Slots.{bad-card, slots-in, locals-in, ReaderCall}
 use Rattle.reader_slots.specs.Search.{lowest-slot, some-slot, found-slot}
 use Rattle.reader_floor.specs.Floor.{probe-tests, floor-of, floor-answer, db-file-reader, reclaim-dead, min-active-reader-frame, has-active-db-file-reader}
-use Rattle.live_readers.specs.Live.{looked-at}
+use Rattle.reader_probe.specs.Live.{looked-at}
 use Rattle.reader_slots.specs.Inner.{slots-refusal}
-use Rattle.live_readers.specs.Inner.{failed-by, db-file-by, probe-refusal}
+use Rattle.reader_probe.specs.Inner.{failed-by, db-file-by, probe-refusal}
 use Rattle.reader_floor.specs.Inner.{FloorOf, DbFileOf}
 use Rattle.reader_slots.proofs.Calls.{refuses, accepts, slots-tests, one-or-two, neither}
-use Rattle.live_readers.proofs.Looked.{probes-pass, first-by-probes}
+use Rattle.reader_probe.proofs.Looked.{probes-pass, first-by-probes}
 
 module _ (n : ℕ) (mode : SharedWalOwnershipMode) (bytes b f o l : List ℕ) (k : ℕ) (e : k ≡ slots-refusal n (length b) (length f) (length o) (length l)) where
   -- the tests after 1 and 2, of a call that probes so many slots

@@ -8,7 +8,7 @@ use Rattle.wal_types.specs.Memory.{Memory, Process}
 use Rattle.wal_types.specs.Store.{apply}
 use Rattle.reader_slots.specs.Slots.{held, granted}
 use Rattle.reader_slots.proofs.Kept.{SlotSame, emptied-keeps}
-use Rattle.live_readers.specs.Live.{skipped, dead}
+use Rattle.reader_probe.specs.Live.{skipped, dead}
 use Rattle.reader_floor.specs.Floor.{reclaim-dead}
 
 middle-false : (a c : Bool) → (a && false && c) ≡ false

@@ -14,10 +14,10 @@ use Rattle.wal_types.specs.declared.SharedWalOwnershipMode.{SharedWalOwnershipM
 use Rattle.wal_types.specs.Memory.{Memory, Process}
 use Rattle.wal_types.specs.Refusal.{lowest, Test}
 use Rattle.wal_types.specs.Call.{Answer, refused, none, frame-found, Call, Done, after, done, does, flag}
-use Rattle.live_readers.specs.declared.live.Floor.{Floor}
-use Rattle.live_readers.specs.declared.live.Floor.the-variants.{Mark, NoMark}
+use Rattle.reader_probe.specs.declared.live.Floor.{Floor}
+use Rattle.reader_probe.specs.declared.live.Floor.the-variants.{Mark, NoMark}
 use Rattle.reader_slots.specs.Slots.{held}
-use Rattle.live_readers.specs.Live.{skipped, live, lower-floor, looked-at}
+use Rattle.reader_probe.specs.Live.{skipped, live, lower-floor, looked-at}
 use Rattle.reader_floor.specs.Floor.{floor-from, floor-of, floor-answer, probe-tests, reclaim-dead, min-active-reader-frame, has-active-db-file-reader, db-file-reader}
 use Rattle.reader_slots.specs.Search.{found-slot}
 use Rattle.reader_slots.proofs.Calls.{refuses, accepts}

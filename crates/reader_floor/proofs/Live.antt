@@ -13,20 +13,20 @@ use Rattle.wal_types.specs.Settings.{unused}
 use Rattle.wal_types.specs.Memory.{Memory, Process}
 use Rattle.wal_types.specs.Fresh.{fresh-header}
 use Rattle.reader_slots.specs.declared.slots.Slot.{Slot}
-use Rattle.live_readers.specs.declared.live.Floor.{Floor}
-use Rattle.live_readers.specs.declared.live.Floor.the-variants.{NoMark}
-use Rattle.live_readers.specs.declared.live.LiveFrame.{LiveFrame}
+use Rattle.reader_probe.specs.declared.live.Floor.{Floor}
+use Rattle.reader_probe.specs.declared.live.Floor.the-variants.{NoMark}
+use Rattle.reader_probe.specs.declared.live.LiveFrame.{LiveFrame}
 use Rattle.reader_slots.specs.Slots.{granted, slots-in, locals-in}
 use Rattle.reader_slots.specs.Search.{lowest-slot}
-use Rattle.live_readers.specs.Live.{dead, live, lower-floor, looked-at}
+use Rattle.reader_probe.specs.Live.{dead, live, lower-floor, looked-at}
 use Rattle.reader_floor.specs.Floor.{floor-from, floor-of}
 use Rattle.reader_slots.specs.Inner.{emptied-if, SlotsBecome}
-use Rattle.live_readers.specs.Inner.{skipped-cell, live-by, live-db-file-by, live-frame, floor-with, is-db-file}
+use Rattle.reader_probe.specs.Inner.{skipped-cell, live-by, live-db-file-by, live-frame, floor-with, is-db-file}
 use Rattle.reader_floor.specs.Inner.{FloorOf, DbFileOf}
 use Rattle.reader_slots.proofs.Cells.{getD-any, live-not-dead}
 use Rattle.reader_slots.proofs.Emptied.{emptied-slot, emptied, emptied-done, emptied-next}
 use Rattle.reader_slots.proofs.Lowest.{lowest-here, lowest-next, lowest-done}
-use Rattle.live_readers.proofs.Looked.{looked-bound}
+use Rattle.reader_probe.proofs.Looked.{looked-bound}
 
 -- the slots from i on are as they were
 pub record SameFrom (i : ℕ) (f o f₀ o₀ : List ℕ) : Type 0 where

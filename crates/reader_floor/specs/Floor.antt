@@ -11,15 +11,15 @@ use Rattle.wal_types.specs.Store.{Piece}
 use Rattle.wal_types.specs.Refusal.{Test, _if_, settings, short-memory, card, probe}
 use Rattle.wal_types.specs.Call.{Call, Answer, refused, frame-found, none, flag, does, unless}
 use Rattle.reader_slots.specs.declared.slots.Slot.{Slot}
-use Rattle.live_readers.specs.declared.live.Floor.{Floor}
-use Rattle.live_readers.specs.declared.live.Floor.the-variants.{Mark, NoMark}
+use Rattle.reader_probe.specs.declared.live.Floor.{Floor}
+use Rattle.reader_probe.specs.declared.live.Floor.the-variants.{Mark, NoMark}
 use Rattle.reader_floor.specs.declared.floor.MinFrame.{MinFrame}
 use Rattle.reader_floor.specs.declared.floor.MinFrame.the-variants.{Floor as Least, NoFloor, Refused as NotTold}
 use Rattle.reader_floor.specs.declared.floor.DbFileReader.{DbFileReader}
 use Rattle.reader_floor.specs.declared.floor.DbFileReader.the-variants.{Active, NoneActive, Refused as NotKnown}
 use Rattle.reader_slots.specs.Slots.{short-slots, bad-card, empty-slots}
 use Rattle.reader_slots.specs.Search.{lowest-slot, some-slot, found-slot}
-use Rattle.live_readers.specs.Live.{dead, live, probe-failed, lower-floor, looked-at}
+use Rattle.reader_probe.specs.Live.{dead, live, probe-failed, lower-floor, looked-at}
 
 -- the least mark above 0 of the live ones among so many slots from this one on, and the floor so far
 unfoldable pub floor-from : SharedWalOwnershipMode → List ℕ → Process → Memory → ℕ → ℕ → Floor → Floor

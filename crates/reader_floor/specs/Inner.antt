@@ -8,9 +8,9 @@ use Rattle.wal_types.specs.Memory.{Memory, Process}
 use Rattle.wal_types.specs.Store.{apply}
 use Rattle.reader_slots.specs.Slots.{slots-in, locals-in}
 use Rattle.reader_slots.specs.Search.{lowest-slot, found-slot}
-use Rattle.live_readers.specs.declared.live.Floor.{Floor}
-use Rattle.live_readers.specs.Live.{looked-at}
-use Rattle.live_readers.specs.Inner.{live-db-file-by}
+use Rattle.reader_probe.specs.declared.live.Floor.{Floor}
+use Rattle.reader_probe.specs.Live.{looked-at}
+use Rattle.reader_probe.specs.Inner.{live-db-file-by}
 use Rattle.reader_floor.specs.Floor.{floor-of, reclaim-dead}
 
 -- Any memory with the lists b, f and o in it and any process with the local owners l: the floor is r, and the memory

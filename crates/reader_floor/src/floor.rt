@@ -1,8 +1,8 @@
 // min_active_reader_frame, the floor below which no live reader's mark lies, and has_active_db_file_reader. Both reclaim
 // the dead slots that they meet. A failed probe (refusal 15) is looked for first, so that a refused call changes nothing.
-use live_readers::live;
-use live_readers::live::Floor;
-use live_readers::probe;
+use reader_probe::live;
+use reader_probe::live::Floor;
+use reader_probe::probe;
 use reader_slots::slots;
 use wal_types::SharedWalOwnershipMode;
 ghost use mathlib.Core.Path.{_≡_};

@@ -11,8 +11,8 @@ use Rattle.wal_types.specs.Memory.{Memory, Process}
 use Rattle.wal_types.specs.Store.{Store, apply}
 use Rattle.wal_types.specs.Refusal.{lowest}
 use Rattle.wal_types.specs.Call.{Answer, refused, ok, flag, value, stored, dropped, kept, frame-found, none, listed, slot-taken, Outcome, accepted-or, Done, done, after}
-use Rattle.live_readers.specs.declared.live.Floor.{Floor}
-use Rattle.live_readers.specs.declared.live.Floor.the-variants.{Mark, NoMark}
+use Rattle.reader_probe.specs.declared.live.Floor.{Floor}
+use Rattle.reader_probe.specs.declared.live.Floor.the-variants.{Mark, NoMark}
 use Rattle.reader_floor.specs.declared.floor.MinFrame.{MinFrame}
 use Rattle.reader_floor.specs.declared.floor.MinFrame.the-variants.{Floor as Least, NoFloor, Refused as NotTold}
 use Rattle.reader_floor.proofs.floor.MinFrame as MinFrameType

@@ -5,8 +5,8 @@ use Prim.Native.Nat.{ℕ, min}
 use Rattle.wal_types.specs.declared.SharedWalOwnershipMode.{SharedWalOwnershipMode}
 use Rattle.wal_types.specs.Memory.{Memory, Process}
 use Rattle.wal_types.specs.Call.{Call, Answer, refused, value, does, unless, after, done}
-use Rattle.live_readers.specs.declared.live.Floor.{Floor}
-use Rattle.live_readers.specs.declared.live.Floor.the-variants.{Mark, NoMark}
+use Rattle.reader_probe.specs.declared.live.Floor.{Floor}
+use Rattle.reader_probe.specs.declared.live.Floor.the-variants.{Mark, NoMark}
 use Rattle.reader_floor.specs.declared.floor.MinFrame.{MinFrame}
 use Rattle.reader_floor.specs.declared.floor.MinFrame.the-variants.{Floor as Least, NoFloor, Refused as NotTold}
 use Rattle.reader_limit.specs.declared.limit.Limit.{Limit}

@@ -12,8 +12,8 @@ use Rattle.wal_types.specs.declared.SharedWalOwnershipMode.the-variants.{LinuxO
 use Rattle.wal_types.specs.Settings.{unused}
 use Rattle.wal_types.specs.Memory.{Memory, bit-at, slot-bit}
 use Rattle.wal_types.specs.Store.{apply, when}
-use Rattle.bitmap.specs.Bit.{set-bit, clear-bit}
-use Rattle.bitmap.proofs.Bits.{set-same, set-other, clear-other}
+use Rattle.reader_bitmap.specs.Bit.{set-bit, clear-bit}
+use Rattle.reader_bitmap.proofs.Bits.{set-same, set-other, clear-other}
 use Rattle.reader_slots.specs.Slots.{take-slot, empty-slot, empty-slots}
 use Rattle.reader_slots.specs.Inner.{emptied-if}
 use Rattle.reader_slots.proofs.Calls.{apply-append}

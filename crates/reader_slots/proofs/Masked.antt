@@ -10,8 +10,8 @@ use lib.Bits.{bitAnd}
 use lib.ListN.{getD}
 use borrow.Author.Tests.{lt-ltb, le-ltb}
 use Rattle.wal_types.specs.Memory.{bit-at}
-use Rattle.bitmap.specs.Bit.{set-bit, Lowest}
-use Rattle.bitmap.proofs.Bits.{set-same, set-other, bit-and, zero-bits, no-bits}
+use Rattle.reader_bitmap.specs.Bit.{set-bit, Lowest}
+use Rattle.reader_bitmap.proofs.Bits.{set-same, set-other, bit-and, zero-bits, no-bits}
 use Rattle.reader_slots.specs.Search.{lowest-slot}
 use Rattle.reader_slots.specs.Inner.{available-in, slot-of-bit}
 use Rattle.reader_slots.proofs.Lowest.{lowest-none, lowest-is}

@@ -12,7 +12,7 @@ use Rattle.wal_types.specs.Settings.{words-for, unused}
 use Rattle.wal_types.specs.Memory.{Memory, Process, slot-bit, no-mark}
 use Rattle.wal_types.specs.Call.{Call, Answer, after, done}
 use Rattle.wal_types.specs.Store.{to-bitmap, to-reader-frame, to-reader-owner, Piece, one, when, _then_}
-use Rattle.bitmap.specs.Bit.{set-bit, clear-bit}
+use Rattle.reader_bitmap.specs.Bit.{set-bit, clear-bit}
 
 -- Refusal 2: fewer bitmap words, slot frames, slot owners or local owners than n slots have.
 abbrev pub shorter : ℕ → ℕ → ℕ → ℕ → ℕ → Bool

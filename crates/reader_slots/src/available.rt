@@ -6,7 +6,7 @@ ghost use mathlib.Core.Bool.{_&&_, cond};
 ghost use Prim.Native.Nat.{ℕ, _+_, _-_, _/_, _<_, _≤_, min};
 ghost use lib.Dec.{eqb};
 ghost use lib.ListN.{length};
-ghost use Rattle.bitmap.specs.Bit.{set-bit, Lowest};
+ghost use Rattle.reader_bitmap.specs.Bit.{set-bit, Lowest};
 ghost use Rattle.reader_slots.specs.Search.{lowest-slot};
 ghost use Rattle.reader_slots.specs.Inner.{available-by, available-in, slot-of-bit};
 
@@ -21,7 +21,7 @@ fn with_granted(mask: u64, bit: u32, local_owner: SharedOwnerRecord, card: u8) -
     if card != 1 {
         return mask;
     }
-    bitmap::with_bit(mask, bit)
+    reader_bitmap::with_bit(mask, bit)
 }
 
 // A word of the bitmap, masked by its granted and unheld slots, which are those from first to end. The mask is built
@@ -53,7 +53,7 @@ fn slot_in_word(word: u64, first: usize, end: usize, local_readers: &[u64], card
     if word == 0 {
         return Slot::Nothing;
     }
-    let bit = bitmap::lowest_bit(available_bits(word, first, end, local_readers, card));
+    let bit = reader_bitmap::lowest_bit(available_bits(word, first, end, local_readers, card));
     if bit < 64 {
         return Slot::At(first + bit as usize);
     }

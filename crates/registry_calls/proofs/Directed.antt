@@ -8,7 +8,7 @@ use Rattle.wal_types.specs.declared.SharedReadMark.{SharedReadMark}
 use Rattle.wal_types.specs.Call.{Call, Answer}
 use Rattle.reader_slots.specs.Slots.{in-registry}
 use Rattle.reader_moves.specs.Update.{MoveCall, ReleaseCall}
-use Rattle.shared_marks.specs.Shared.{registry-in, SharedCall}
+use Rattle.reader_shared.specs.Shared.{registry-in, SharedCall}
 use Rattle.registry_calls.specs.InnerDirect.{DirectMove}
 
 module _ (n slot : ℕ) (shared : Bool) (r : List SharedReadMark) (e : shared ≡ in-registry n r slot) (call : Call) where

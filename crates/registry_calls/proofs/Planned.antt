@@ -5,10 +5,10 @@ use Prim.Native.Nat.{ℕ, min}
 use lib.ListN.{length}
 use Rattle.wal_types.specs.declared.SharedReadMark.{SharedReadMark}
 use Rattle.wal_types.specs.Call.{Call, Answer}
-use Rattle.mark_registry.specs.declared.Seen.{Seen}
-use Rattle.shared_marks.specs.Shared.{SharedCall}
-use Rattle.mark_registry.specs.InnerScan.{seen-of}
-use Rattle.shared_marks.specs.Inner.{PlanCall}
+use Rattle.reader_marks.specs.declared.Seen.{Seen}
+use Rattle.reader_shared.specs.Shared.{SharedCall}
+use Rattle.reader_marks.specs.InnerScan.{seen-of}
+use Rattle.reader_shared.specs.Inner.{PlanCall}
 
 pub planned : (n mark : ℕ) (seen : Seen) (records : ℕ) (call : Call) (b f o l : List ℕ) (a : Answer) (b′ f′ o′ l′ : List ℕ) (change : List SharedReadMark → List SharedReadMark) → PlanCall n mark seen records call b f o l a b′ f′ o′ l′ change → (r : List SharedReadMark) → seen ≡ seen-of (min n (length r)) r mark → records ≡ length r → (r′ : List SharedReadMark) → r′ ≡ change r → SharedCall call b f o l r a b′ f′ o′ l′ r′
 unfolding PlanCall

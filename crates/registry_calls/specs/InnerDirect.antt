@@ -7,7 +7,7 @@ use Rattle.wal_types.specs.declared.SharedReadMark.{SharedReadMark}
 use Rattle.wal_types.specs.Memory.{Memory, Process}
 use Rattle.wal_types.specs.Call.{Call, Answer, after, done}
 use Rattle.reader_slots.specs.Slots.{slots-in}
-use Rattle.shared_marks.specs.Shared.{registry-in}
+use Rattle.reader_shared.specs.Shared.{registry-in}
 
 -- The call on any memory with the slot frames f and the slot owners o in it, by any process with the registry r: it answers
 -- a, leaves the slot frames f′, and changes nothing else.

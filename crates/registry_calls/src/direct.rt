@@ -6,7 +6,7 @@ use wal_types::SharedOwnerRecord;
 use wal_types::SharedReadMark;
 use wal_types::SharedWalOwnershipMode;
 ghost use Rattle.reader_moves.specs.Update.{update-reader, update-answer, unregister-reader, release-answer};
-ghost use Rattle.shared_marks.specs.Shared.{SharedCall};
+ghost use Rattle.reader_shared.specs.Shared.{SharedCall};
 ghost use Rattle.registry_calls.specs.InnerDirect.{DirectMove};
 
 // Moves a reader to another mark.
@@ -22,7 +22,7 @@ pub fn update_reader(
     ensures { λ r. ⌜ DirectMove (update-reader n slot (owner .0) mark) (now («reader_frames» .entry)) (now («reader_owners» .entry)) (now (registry .entry)) (update-answer slot (owner .0) mark r) (now («reader_frames» .exit)) ⌝ }
 {
     let records = registry.len();
-    let in_registry = mark_registry::slot_is_shared(registry, n, slot);
+    let in_registry = reader_marks::slot_is_shared(registry, n, slot);
     update::update_core(
         n,
         reader_frames,
@@ -50,7 +50,7 @@ pub fn unregister_reader(
     ensures { λ r. ⌜ SharedCall (unregister-reader n mode slot (owner .0)) (now (bitmap .entry)) (now («reader_frames» .entry)) (now («reader_owners» .entry)) (now («local_readers» .entry)) (now (registry .entry)) (release-answer r) (now (bitmap .exit)) (now («reader_frames» .exit)) (now («reader_owners» .exit)) (now («local_readers» .exit)) (now (registry .entry)) ⌝ }
 {
     let records = registry.len();
-    let in_registry = mark_registry::slot_is_shared(registry, n, slot);
+    let in_registry = reader_marks::slot_is_shared(registry, n, slot);
     update::unregister_core(
         n,
         mode,

@@ -1,13 +1,13 @@
 // register_reader_for_snapshot, register_db_file_reader and unregister_reader_for_snapshot.
 use reader_moves::update::Release;
-use shared_marks::shared;
-use shared_marks::shared::Share;
+use reader_shared::shared;
+use reader_shared::shared::Share;
 use wal_types::DB_FILE_READER_FRAME;
 use wal_types::SharedOwnerRecord;
 use wal_types::SharedReadMark;
 use wal_types::SharedWalOwnershipMode;
 ghost use Rattle.reader_moves.specs.Update.{release-answer};
-ghost use Rattle.shared_marks.specs.Shared.{register-reader-for-snapshot, register-db-file-reader, unregister-reader-for-snapshot, share-answer, SharedCall};
+ghost use Rattle.reader_shared.specs.Shared.{register-reader-for-snapshot, register-db-file-reader, unregister-reader-for-snapshot, share-answer, SharedCall};
 
 // Takes a reader slot at a mark, or joins the connections of this process that share the mark already.
 pub fn register_reader_for_snapshot(
@@ -25,7 +25,7 @@ pub fn register_reader_for_snapshot(
     ensures { λ r. ⌜ SharedCall (register-reader-for-snapshot n mode (owner .0) mark (now (card .entry))) (now (bitmap .entry)) (now («reader_frames» .entry)) (now («reader_owners» .entry)) (now («local_readers» .entry)) (now (registry .entry)) (share-answer r) (now (bitmap .exit)) (now («reader_frames» .exit)) (now («reader_owners» .exit)) (now («local_readers» .exit)) (now (registry .exit)) ⌝ }
 {
     let records = registry.len();
-    let seen = mark_registry::look_through(registry, n, mark);
+    let seen = reader_marks::look_through(registry, n, mark);
     let plan = shared::share_plan(
         n,
         mode,
@@ -39,8 +39,8 @@ pub fn register_reader_for_snapshot(
         owner,
         mark,
     );
-    mark_registry::retain_shared_snapshot_reader(registry, plan.retained);
-    mark_registry::publish_shared_snapshot_reader(registry, plan.published, mark, plan.slot, owner);
+    reader_marks::retain_shared_snapshot_reader(registry, plan.retained);
+    reader_marks::publish_shared_snapshot_reader(registry, plan.published, mark, plan.slot, owner);
     plan.answer
 }
 
@@ -88,7 +88,7 @@ pub fn unregister_reader_for_snapshot(
     ensures { λ r. ⌜ SharedCall (unregister-reader-for-snapshot n mode mark slot (owner .0)) (now (bitmap .entry)) (now («reader_frames» .entry)) (now («reader_owners» .entry)) (now («local_readers» .entry)) (now (registry .entry)) (release-answer r) (now (bitmap .exit)) (now («reader_frames» .exit)) (now («reader_owners» .exit)) (now («local_readers» .exit)) (now (registry .exit)) ⌝ }
 {
     let records = registry.len();
-    let seen = mark_registry::look_through(registry, n, mark);
+    let seen = reader_marks::look_through(registry, n, mark);
     let plan = shared::unshare_plan(
         n,
         mode,
@@ -102,6 +102,6 @@ pub fn unregister_reader_for_snapshot(
         slot,
         owner,
     );
-    mark_registry::release_shared_snapshot_reader(registry, plan.released);
+    reader_marks::release_shared_snapshot_reader(registry, plan.released);
     plan.answer
 }

@@ -3,7 +3,7 @@ use mathlib.Core.Path.{_≡_, refl, subst}
 use mathlib.Core.List.{List}
 use Prim.Native.Nat.{ℕ, _≤_}
 use Rattle.wal_types.specs.Call.{value, frame-found}
-use Rattle.frame_index.specs.declared.find.Watermark.the-variants.{UpTo, NoWatermark}
+use Rattle.index_find.specs.declared.find.Watermark.the-variants.{UpTo, NoWatermark}
 use Rattle.sequence.specs.Sequence.{Settings, Op, record-op, rollback-op, find-op, list-op, register-op, share-op, move-op, release-op, unshare-op, floor-op, limit-op, db-reader-op, acquire-op, unlock-op, commit-op, backfill-op, seq-op, epoch-op, World, Event, answer-of}
 use Rattle.sequence.specs.Hold.{accepted, Kind}
 use Rattle.sequence.specs.Statement.{at-now, Premises, Owed, Demand3}

@@ -13,38 +13,38 @@ use Rattle.wal_types.specs.declared.SharedWalOwnershipMode.the-variants.{LinuxO
 use Rattle.wal_types.specs.Settings.{unused}
 use Rattle.wal_types.specs.Memory.{Memory, Process, with-header, no-mark, slot-bit, bit-at}
 use Rattle.wal_types.specs.Call.{Pair, pair, Answer, refused, ok, value, stored, kept, frame-found, listed, slot-taken, Done, done, after}
-use Rattle.bitmap.specs.Bit.{clear-bit}
+use Rattle.reader_bitmap.specs.Bit.{clear-bit}
 use Rattle.header.specs.Publish.{publish-commit}
 use Rattle.index_end.specs.declared.place.Place.the-variants.{AtEnd}
-use Rattle.frame_index.specs.declared.find.Watermark.the-variants.{NoWatermark}
-use Rattle.frame_index.specs.declared.find.Lookup.the-variants.{Frame, NoFrame}
-use Rattle.hash_block.specs.Block.{built}
-use Rattle.frame_index.specs.Index.{index-refusal, block-pages-of, with-block, index-in}
+use Rattle.index_find.specs.declared.find.Watermark.the-variants.{NoWatermark}
+use Rattle.index_find.specs.declared.find.Lookup.the-variants.{Frame, NoFrame}
+use Rattle.index_hash.specs.Block.{built}
+use Rattle.index_find.specs.Index.{index-refusal, block-pages-of, with-block, index-in}
 use Rattle.index_end.specs.Place.{started, placed, out-of-order}
 use Rattle.index_end.specs.Kept.{kept-of}
-use Rattle.frame_record.specs.Record.{record-frame}
-use Rattle.frame_record.specs.Rollback.{kept-len, rollback-frames}
-use Rattle.frame_index.specs.Find.{lookup-answer, find-frame}
-use Rattle.frame_record.proofs.RolledBack.{rollback-odd}
-use Rattle.frame_list.specs.Latest.{listed-entries, pairs-of, iter-latest-frames}
+use Rattle.index_record.specs.Record.{record-frame}
+use Rattle.index_record.specs.Rollback.{kept-len, rollback-frames}
+use Rattle.index_find.specs.Find.{lookup-answer, find-frame}
+use Rattle.index_record.proofs.RolledBack.{rollback-odd}
+use Rattle.list_latest.specs.Latest.{listed-entries, pairs-of, iter-latest-frames}
 use Rattle.reader_slots.specs.Slots.{slots-in, locals-in, byte-above, in-registry, empty-slots}
 use Rattle.reader_slots.specs.Search.{lowest-slot, some-slot}
-use Rattle.readers.specs.Register.{register-reader}
+use Rattle.reader_register.specs.Register.{register-reader}
 use Rattle.reader_moves.specs.Update.{unregister-reader}
 use Rattle.reader_floor.specs.Floor.{floor-from, min-active-reader-frame}
 use Rattle.reader_limit.specs.Limit.{copy-back-limit}
-use Rattle.mark_registry.specs.Registry.{first-record}
-use Rattle.shared_marks.specs.Shared.{register-reader-for-snapshot, unregister-reader-for-snapshot}
-use Rattle.grown_index.specs.Entries.{entries, greatest, taken-off, up-to}
-use Rattle.grown_index.specs.Grown.{LongMemory, Grown}
-use Rattle.grown_index.specs.Listed.{IsListOf}
-use Rattle.grown_index.proofs.Starts.{fresh-grown, same-grown}
-use Rattle.grown_index.proofs.Records.{with-entry, stores, entry-grown}
-use Rattle.grown_index.proofs.Rollbacks.{rollback-grown}
-use Rattle.grown_index.proofs.Answers.{grown-accepted, find-done, list-done}
-use Rattle.grown_index.proofs.Listed.{list-gives}
-use Rattle.grown_index.proofs.Unique.{listed-once}
-use Rattle.grown_index.proofs.Views.{view-listed}
+use Rattle.reader_marks.specs.Registry.{first-record}
+use Rattle.reader_shared.specs.Shared.{register-reader-for-snapshot, unregister-reader-for-snapshot}
+use Rattle.index_grown.specs.Entries.{entries, greatest, taken-off, up-to}
+use Rattle.index_grown.specs.Grown.{LongMemory, Grown}
+use Rattle.index_grown.specs.Listed.{IsListOf}
+use Rattle.index_grown.proofs.Starts.{fresh-grown, same-grown}
+use Rattle.index_grown.proofs.Records.{with-entry, stores, entry-grown}
+use Rattle.index_grown.proofs.Rollbacks.{rollback-grown}
+use Rattle.index_grown.proofs.Answers.{grown-accepted, find-done, list-done}
+use Rattle.index_grown.proofs.Listed.{list-gives}
+use Rattle.index_grown.proofs.Unique.{listed-once}
+use Rattle.index_grown.proofs.Views.{view-listed}
 use Rattle.sequence.specs.Sequence.{find-op, World, Event, answer-of, next, run, FreshWorld, Throughout}
 use Rattle.sequence.specs.Book.{Book, empty-book, book-after, InPairs, here, there}
 use Rattle.sequence.specs.Hold.{accepted, holders-after, direct, shared, begins-direct, begins-shared, SharedLasts, EndsDirect, KeepsAbove, SameSlot, LeavesSlot}

@@ -10,18 +10,18 @@ use lib.ListN.{length}
 use Rattle.wal_types.specs.Memory.{Memory, Process}
 use Rattle.wal_types.specs.Refusal.{_if_, short-list}
 use Rattle.wal_types.specs.Call.{Pair, refused, listed, does, Done, done, after}
-use Rattle.frame_index.specs.declared.find.Watermark.the-variants.{NoWatermark}
-use Rattle.frame_index.specs.Index.{index-refusal}
-use Rattle.frame_index.specs.Find.{lookup-answer, find-frame}
-use Rattle.frame_index.proofs.Refused.{index-refused}
-use Rattle.frame_index.proofs.LookedUp.{find-refused}
-use Rattle.frame_list.specs.Latest.{listed-entries, pairs-of, iter-latest-frames}
-use Rattle.grown_index.specs.Entries.{entries, up-to, greatest}
-use Rattle.grown_index.specs.Grown.{Grown}
-use Rattle.grown_index.specs.Listed.{IsListOf}
-use Rattle.grown_index.proofs.Answers.{find-cases, list-cases}
-use Rattle.grown_index.proofs.Listed.{list-gives}
-use Rattle.grown_index.proofs.Views.{view-greatest, view-listed}
+use Rattle.index_find.specs.declared.find.Watermark.the-variants.{NoWatermark}
+use Rattle.index_find.specs.Index.{index-refusal}
+use Rattle.index_find.specs.Find.{lookup-answer, find-frame}
+use Rattle.index_find.proofs.Refused.{index-refused}
+use Rattle.index_find.proofs.LookedUp.{find-refused}
+use Rattle.list_latest.specs.Latest.{listed-entries, pairs-of, iter-latest-frames}
+use Rattle.index_grown.specs.Entries.{entries, up-to, greatest}
+use Rattle.index_grown.specs.Grown.{Grown}
+use Rattle.index_grown.specs.Listed.{IsListOf}
+use Rattle.index_grown.proofs.Answers.{find-cases, list-cases}
+use Rattle.index_grown.proofs.Listed.{list-gives}
+use Rattle.index_grown.proofs.Views.{view-greatest, view-listed}
 use Rattle.sequence.specs.Sequence.{Settings, find-op, list-op, World, Event, answer-of}
 use Rattle.sequence.specs.Book.{Book, empty-book, entered, book-after}
 use Rattle.sequence.specs.Hold.{accepted, Kind, Begins, begins-direct, begins-shared, KeepsAbove}

@@ -15,24 +15,24 @@ use Rattle.header.specs.declared.locks.Lock.{Lock}
 use Rattle.header.specs.declared.locks.Lock.the-variants.{Writer, Checkpoint}
 use Rattle.header.specs.Publish.{publish-backfill, bump-checkpoint-seq, bump-checkpoint-epoch}
 use Rattle.header.specs.Locks.{local-owner, owner-cell, with-local-owner, acquire-tests, acquires, try-acquire, release-tests, releases, release}
-use Rattle.frame_index.specs.declared.find.Watermark.{Watermark}
-use Rattle.frame_index.specs.Index.{index-tests}
-use Rattle.frame_index.specs.Find.{find-answer, find-frame}
-use Rattle.frame_list.specs.Latest.{list-tests, pairs-of, listed-entries, iter-latest-frames}
+use Rattle.index_find.specs.declared.find.Watermark.{Watermark}
+use Rattle.index_find.specs.Index.{index-tests}
+use Rattle.index_find.specs.Find.{find-answer, find-frame}
+use Rattle.list_latest.specs.Latest.{list-tests, pairs-of, listed-entries, iter-latest-frames}
 use Rattle.reader_slots.specs.declared.slots.Slot.{Slot}
 use Rattle.reader_slots.specs.declared.slots.Slot.the-variants.{At as SlotAt, Nothing as NoSlot}
 use Rattle.reader_slots.specs.Slots.{empty-slot, empty-slots}
-use Rattle.readers.specs.Register.{reclaim-unless, take-found, first-slot, chosen-slot, registers, register-tests, register-reader}
+use Rattle.reader_register.specs.Register.{reclaim-unless, take-found, first-slot, chosen-slot, registers, register-tests, register-reader}
 use Rattle.reader_moves.specs.Update.{update-tests, update-reader, releases-slot, unregister-reader, release-tests as release-slot-tests}
-use Rattle.live_readers.specs.Live.{dead, looked-at}
+use Rattle.reader_probe.specs.Live.{dead, looked-at}
 use Rattle.reader_floor.specs.Floor.{reclaim-dead, floor-of, floor-answer, probe-tests, db-file-reader, min-active-reader-frame, has-active-db-file-reader}
 use Rattle.reader_slots.specs.Search.{found-slot}
 use Rattle.reader_limit.specs.Limit.{limit-of, copy-back-limit}
-use Rattle.mark_registry.specs.declared.Record.{Record}
-use Rattle.mark_registry.specs.declared.Record.the-variants.{At, Nothing}
-use Rattle.mark_registry.specs.Registry.{record-of, one-less, with-record}
-use Rattle.shared_marks.specs.Shared.{share-tests, shares, register-reader-for-snapshot, last-holder, unshare-tests, unshares, unregister-reader-for-snapshot}
-use Rattle.grown_index.specs.Grown.{SameIndex}
+use Rattle.reader_marks.specs.declared.Record.{Record}
+use Rattle.reader_marks.specs.declared.Record.the-variants.{At, Nothing}
+use Rattle.reader_marks.specs.Registry.{record-of, one-less, with-record}
+use Rattle.reader_shared.specs.Shared.{share-tests, shares, register-reader-for-snapshot, last-holder, unshare-tests, unshares, unregister-reader-for-snapshot}
+use Rattle.index_grown.specs.Grown.{SameIndex}
 
 -- length, blocks, pages, frames and hash, and the published frame, are the same
 pub record Untouched (m m′ : Memory) : Type 0 where

@@ -10,18 +10,18 @@ use borrow.Author.Tests.{ne-eqb}
 use Rattle.wal_types.specs.Memory.{Memory, Process}
 use Rattle.wal_types.specs.Call.{Pair, Answer, refused, ok, flag, value, stored, dropped, kept, frame-found, none, listed, slot-taken, Done, after}
 use Rattle.index_end.specs.Place.{resets}
-use Rattle.frame_record.specs.Record.{record-frame}
-use Rattle.frame_record.specs.Rollback.{rollback-frames}
-use Rattle.frame_record.proofs.Recorded.{record-refused}
-use Rattle.frame_record.proofs.RolledBack.{rollback-refused}
-use Rattle.grown_index.specs.Entries.{entries, up-to}
-use Rattle.grown_index.specs.Grown.{Grown, SameIndex}
-use Rattle.grown_index.specs.Calls.{RollbackLeaves}
-use Rattle.grown_index.proofs.Starts.{same-entries}
-use Rattle.grown_index.proofs.Lists.{up-to-keeps, up-to-only}
-use Rattle.grown_index.proofs.Records.{record-elsewhere}
-use Rattle.grown_index.proofs.Rollbacks.{rollback-leaves, rollback-elsewhere}
-use Rattle.grown_index.proofs.Views.{SameView, record-view, rollback-view}
+use Rattle.index_record.specs.Record.{record-frame}
+use Rattle.index_record.specs.Rollback.{rollback-frames}
+use Rattle.index_record.proofs.Recorded.{record-refused}
+use Rattle.index_record.proofs.RolledBack.{rollback-refused}
+use Rattle.index_grown.specs.Entries.{entries, up-to}
+use Rattle.index_grown.specs.Grown.{Grown, SameIndex}
+use Rattle.index_grown.specs.Calls.{RollbackLeaves}
+use Rattle.index_grown.proofs.Starts.{same-entries}
+use Rattle.index_grown.proofs.Lists.{up-to-keeps, up-to-only}
+use Rattle.index_grown.proofs.Records.{record-elsewhere}
+use Rattle.index_grown.proofs.Rollbacks.{rollback-leaves, rollback-elsewhere}
+use Rattle.index_grown.proofs.Views.{SameView, record-view, rollback-view}
 use Rattle.sequence.specs.Sequence.{Settings, Op, record-op, rollback-op, find-op, list-op, register-op, share-op, move-op, release-op, unshare-op, floor-op, limit-op, db-reader-op, acquire-op, unlock-op, commit-op, backfill-op, seq-op, epoch-op, World, Event, answer-of, next, run, Throughout}
 use Rattle.sequence.specs.Book.{Book, entered, InPairs, here, there}
 use Rattle.sequence.specs.Hold.{accepted, KeepsAbove}

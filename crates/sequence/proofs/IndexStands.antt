@@ -14,18 +14,18 @@ use Rattle.wal_types.specs.Store.{to-header, max-frame, checksum-1, checksum-2,
 use Rattle.wal_types.specs.Call.{Pair, pair, Answer, refused, ok, flag, value, stored, dropped, kept, frame-found, none, listed, slot-taken, Done, after}
 use Rattle.header.specs.Publish.{publish-commit}
 use Rattle.header.specs.Publish.{next as next-count}
-use Rattle.frame_index.specs.Index.{index-refusal}
-use Rattle.frame_record.specs.Record.{record-frame}
-use Rattle.frame_record.specs.Rollback.{rollback-frames}
-use Rattle.frame_index.proofs.Settings.{passed-settings, passed-long}
-use Rattle.frame_record.proofs.Recorded.{record-refused}
-use Rattle.frame_record.proofs.RolledBack.{rollback-refused}
-use Rattle.grown_index.specs.Entries.{entries, entries-found, taken-off}
-use Rattle.grown_index.specs.Grown.{Grown, SameIndex}
-use Rattle.grown_index.specs.Calls.{RecordLeaves, RollbackLeaves, SameReaders}
-use Rattle.grown_index.proofs.Starts.{fresh-grown, fresh-entries, same-grown, same-entries}
-use Rattle.grown_index.proofs.Records.{record-grown, record-leaves, record-elsewhere}
-use Rattle.grown_index.proofs.Rollbacks.{rollback-grown, rollback-leaves, rollback-elsewhere}
+use Rattle.index_find.specs.Index.{index-refusal}
+use Rattle.index_record.specs.Record.{record-frame}
+use Rattle.index_record.specs.Rollback.{rollback-frames}
+use Rattle.index_find.proofs.Settings.{passed-settings, passed-long}
+use Rattle.index_record.proofs.Recorded.{record-refused}
+use Rattle.index_record.proofs.RolledBack.{rollback-refused}
+use Rattle.index_grown.specs.Entries.{entries, entries-found, taken-off}
+use Rattle.index_grown.specs.Grown.{Grown, SameIndex}
+use Rattle.index_grown.specs.Calls.{RecordLeaves, RollbackLeaves, SameReaders}
+use Rattle.index_grown.proofs.Starts.{fresh-grown, fresh-entries, same-grown, same-entries}
+use Rattle.index_grown.proofs.Records.{record-grown, record-leaves, record-elsewhere}
+use Rattle.index_grown.proofs.Rollbacks.{rollback-grown, rollback-leaves, rollback-elsewhere}
 use Rattle.sequence.specs.Sequence.{Settings, Op, record-op, rollback-op, find-op, list-op, register-op, share-op, move-op, release-op, unshare-op, floor-op, limit-op, db-reader-op, acquire-op, unlock-op, commit-op, backfill-op, seq-op, epoch-op, perform, World, Event, answer-of, next, run, FreshWorld}
 use Rattle.sequence.specs.Book.{Book, empty-book, found-pairs, recorded-in, rolled-back-in, entered, book-after}
 use Rattle.sequence.proofs.IndexAside.{Untouched, find-beside, list-beside, register-beside, share-beside, move-beside, release-beside, unshare-beside, floor-beside, limit-beside, db-reader-beside, acquire-beside, unlock-beside, backfill-beside, seq-beside, epoch-beside}

@@ -17,10 +17,10 @@ use Rattle.wal_types.specs.Store.{apply, when}
 use Rattle.wal_types.specs.Refusal.{lowest}
 use Rattle.wal_types.specs.Call.{value, frame-found, Done, after, does}
 use Rattle.wal_types.proofs.Stores.{apply-append}
-use Rattle.live_readers.specs.declared.live.Floor.{Floor}
-use Rattle.live_readers.specs.declared.live.Floor.the-variants.{Mark, NoMark}
+use Rattle.reader_probe.specs.declared.live.Floor.{Floor}
+use Rattle.reader_probe.specs.declared.live.Floor.the-variants.{Mark, NoMark}
 use Rattle.reader_slots.specs.Slots.{held, granted, empty-slot, empty-slots}
-use Rattle.live_readers.specs.Live.{skipped, dead}
+use Rattle.reader_probe.specs.Live.{skipped, dead}
 use Rattle.reader_floor.specs.Floor.{floor-of, floor-answer, probe-tests, reclaim-dead, min-active-reader-frame}
 use Rattle.reader_limit.specs.Limit.{limit-of, copy-back-limit}
 use Rattle.reader_slots.proofs.Cells.{getD-any, and-false}

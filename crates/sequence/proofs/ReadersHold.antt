@@ -12,7 +12,7 @@ use Rattle.wal_types.specs.Settings.{unused}
 use Rattle.wal_types.specs.Memory.{Memory, Process}
 use Rattle.wal_types.specs.Call.{Answer, value, frame-found, Done, after}
 use Rattle.reader_slots.specs.Slots.{held}
-use Rattle.readers.proofs.Taken.{TookSlot, register-took}
+use Rattle.reader_register.proofs.Taken.{TookSlot, register-took}
 use Rattle.sequence.specs.Sequence.{Settings, Op, record-op, rollback-op, find-op, list-op, register-op, share-op, move-op, release-op, unshare-op, floor-op, limit-op, db-reader-op, acquire-op, unlock-op, commit-op, backfill-op, seq-op, epoch-op, perform, World, Event, answer-of, next, run, FreshWorld, Throughout}
 use Rattle.sequence.specs.Hold.{accepted, holders-next, holders-after, Kind, direct, shared, Begins, begins-direct, begins-shared, EndsDirect, SharedLasts, Lasts, SameSlot, LeavesSlot}
 use Rattle.sequence.specs.Statement.{at-begin, at-now, Premises}

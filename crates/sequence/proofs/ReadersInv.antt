@@ -12,7 +12,7 @@ use Rattle.wal_types.specs.Memory.{Memory, Process}
 use Rattle.wal_types.specs.Call.{Done}
 use Rattle.reader_slots.specs.Slots.{held}
 use Rattle.reader_slots.proofs.Kept.{SlotSame}
-use Rattle.mark_registry.specs.Registry.{one-more, one-less}
+use Rattle.reader_marks.specs.Registry.{one-more, one-less}
 use Rattle.sequence.proofs.SlotsCells.{not-both, rec-at, Active, Fitting, NoRecord, NotNamed}
 use Rattle.sequence.proofs.SlotsStep.{SameRecords, OtherRecords, HeldStay, Step, quiet, moved, released, joined, opened, left, closed}
 

@@ -14,16 +14,16 @@ use Rattle.header.specs.declared.locks.Lock.{Lock}
 use Rattle.header.specs.declared.locks.Lock.the-variants.{Writer, Checkpoint}
 use Rattle.header.specs.Publish.{next, commit-stores, publish-commit, publish-backfill, bump-checkpoint-seq, bump-checkpoint-epoch}
 use Rattle.header.specs.Locks.{local-owner, owner-cell, with-local-owner, acquire-tests, acquires, try-acquire, release-tests, releases, release}
-use Rattle.hash_block.specs.declared.Cell.{Cell}
-use Rattle.hash_block.specs.declared.Cell.the-variants.{Empty, Full}
-use Rattle.hash_block.specs.Block.{empty-cell}
-use Rattle.frame_index.specs.declared.find.Watermark.{Watermark}
-use Rattle.frame_index.specs.Index.{index-tests, block-of, place-of, block-cells-of, zero-stores, clear-block, name-stores, insert-entry, insert-entries}
+use Rattle.index_hash.specs.declared.Cell.{Cell}
+use Rattle.index_hash.specs.declared.Cell.the-variants.{Empty, Full}
+use Rattle.index_hash.specs.Block.{empty-cell}
+use Rattle.index_find.specs.declared.find.Watermark.{Watermark}
+use Rattle.index_find.specs.Index.{index-tests, block-of, place-of, block-cells-of, zero-stores, clear-block, name-stores, insert-entry, insert-entries}
 use Rattle.index_end.specs.Place.{resets, started, blocks-full, drops}
-use Rattle.frame_record.specs.Record.{record-tests, reset-index, grow-index, enter, drop-stores, enter-stores, records, record-frame}
-use Rattle.frame_record.specs.Rollback.{kept-len, rebuild-last, rollback-stores, rollback-frames}
-use Rattle.frame_index.specs.Find.{find-answer, find-frame}
-use Rattle.frame_list.specs.Latest.{list-tests, pairs-of, listed-entries, iter-latest-frames}
+use Rattle.index_record.specs.Record.{record-tests, reset-index, grow-index, enter, drop-stores, enter-stores, records, record-frame}
+use Rattle.index_record.specs.Rollback.{kept-len, rebuild-last, rollback-stores, rollback-frames}
+use Rattle.index_find.specs.Find.{find-answer, find-frame}
+use Rattle.list_latest.specs.Latest.{list-tests, pairs-of, listed-entries, iter-latest-frames}
 
 -- a call is refused and changes nothing, or passes its tests and is made
 module _ (tests : Memory → Process → List Test) (call : Call) (m : Memory) (p : Process) where

@@ -17,9 +17,9 @@ use Rattle.reader_slots.specs.declared.slots.Slot.the-variants.{At as SlotAt, N
 use Rattle.reader_slots.specs.Slots.{short-slots, in-registry}
 use Rattle.reader_slots.specs.Search.{lowest-slot}
 use Rattle.reader_slots.proofs.Lowest.{lowest-at, lowest-below, lowest-nothing}
-use Rattle.mark_registry.specs.declared.Record.{Record}
-use Rattle.mark_registry.specs.declared.Record.the-variants.{At, Nothing}
-use Rattle.mark_registry.specs.Registry.{is-empty, fits, first-record, record-of, empty-record}
+use Rattle.reader_marks.specs.declared.Record.{Record}
+use Rattle.reader_marks.specs.declared.Record.the-variants.{At, Nothing}
+use Rattle.reader_marks.specs.Registry.{is-empty, fits, first-record, record-of, empty-record}
 
 pub not-both : (t : Bool) → t ≡ true → t ≡ false → ⊥
 not-both true a b = let z : _≡_ {A = ℕ} 0 1 = cc in omega arith

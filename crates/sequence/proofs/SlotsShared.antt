@@ -17,15 +17,15 @@ use Rattle.wal_types.proofs.Refusals.{call-accepted}
 use Rattle.reader_slots.specs.declared.slots.Slot.{Slot}
 use Rattle.reader_slots.specs.declared.slots.Slot.the-variants.{At as SlotAt, Nothing as NoSlot}
 use Rattle.reader_slots.specs.Slots.{short-slots, with-local}
-use Rattle.readers.specs.Register.{chosen-slot, slot-answer, hold-found, registers, register-tests, register-reader}
+use Rattle.reader_register.specs.Register.{chosen-slot, slot-answer, hold-found, registers, register-tests, register-reader}
 use Rattle.reader_moves.specs.Update.{releases-slot}
 use Rattle.reader_slots.proofs.Cells.{and-true, and-false}
 use Rattle.reader_slots.proofs.Kept.{slot-same, emptied-other}
-use Rattle.readers.proofs.Taken.{TookSlot, register-took}
-use Rattle.mark_registry.specs.declared.Record.{Record}
-use Rattle.mark_registry.specs.declared.Record.the-variants.{At, Nothing}
-use Rattle.mark_registry.specs.Registry.{record-of, empty-record, one-more, one-less, with-record}
-use Rattle.shared_marks.specs.Shared.{no-room, share-tests, new-record, shares, register-reader-for-snapshot, registered, unshare-tests, unshares, unregister-reader-for-snapshot}
+use Rattle.reader_register.proofs.Taken.{TookSlot, register-took}
+use Rattle.reader_marks.specs.declared.Record.{Record}
+use Rattle.reader_marks.specs.declared.Record.the-variants.{At, Nothing}
+use Rattle.reader_marks.specs.Registry.{record-of, empty-record, one-more, one-less, with-record}
+use Rattle.reader_shared.specs.Shared.{no-room, share-tests, new-record, shares, register-reader-for-snapshot, registered, unshare-tests, unshares, unregister-reader-for-snapshot}
 use Rattle.sequence.specs.Hold.{is-slot, is-ok}
 use Rattle.sequence.proofs.SlotsAside.{by-tests}
 use Rattle.sequence.proofs.SlotsCells.{not-both, neither-true, both-true, none-applies, rec-at, Fitting, record-found, NoRecord, record-missing, empty-found}

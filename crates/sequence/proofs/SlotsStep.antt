@@ -17,16 +17,16 @@ use Rattle.wal_types.specs.Call.{Answer, refused, flag, value, slot-taken, Done
 use Rattle.reader_slots.specs.declared.slots.Slot.{Slot}
 use Rattle.reader_slots.specs.declared.slots.Slot.the-variants.{At as SlotAt, Nothing as NoSlot}
 use Rattle.reader_slots.specs.Slots.{held, with-local}
-use Rattle.readers.specs.Register.{chosen-slot, registers, register-tests, register-reader, hold-found}
+use Rattle.reader_register.specs.Register.{chosen-slot, registers, register-tests, register-reader, hold-found}
 use Rattle.reader_moves.specs.Update.{update-tests, update-reader, release-tests, unregister-reader, releases-slot}
 use Rattle.reader_floor.specs.Floor.{floor-of, floor-answer, probe-tests, reclaim-dead, min-active-reader-frame, has-active-db-file-reader, db-file-reader}
-use Rattle.live_readers.specs.Live.{looked-at}
+use Rattle.reader_probe.specs.Live.{looked-at}
 use Rattle.reader_slots.specs.Search.{found-slot}
 use Rattle.reader_limit.specs.Limit.{limit-of, copy-back-limit}
 use Rattle.reader_slots.proofs.Kept.{SlotSame, slot-same, emptied-other}
 use Rattle.reader_floor.proofs.Kept.{dead-keeps}
-use Rattle.readers.proofs.Taken.{register-keeps}
-use Rattle.mark_registry.specs.Registry.{one-more, one-less}
+use Rattle.reader_register.proofs.Taken.{register-keeps}
+use Rattle.reader_marks.specs.Registry.{one-more, one-less}
 use Rattle.sequence.specs.Hold.{accepted}
 use Rattle.sequence.proofs.SlotsAside.{by-tests, Leaves}
 use Rattle.sequence.proofs.SlotsCells.{neither-true, none-applies, rec-at, Fitting, NoRecord, NotNamed, not-named}

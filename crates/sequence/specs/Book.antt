@@ -4,7 +4,7 @@ use mathlib.Core.List.{List, [], _∷_, _++_}
 use Prim.Native.Nat.{ℕ, max}
 use lib.Dec.{eqb}
 use Rattle.wal_types.specs.Call.{Pair, pair, Answer, refused, ok, flag, value, stored, dropped, kept, frame-found, none, listed, slot-taken}
-use Rattle.grown_index.specs.Entries.{taken-off}
+use Rattle.index_grown.specs.Entries.{taken-off}
 use Rattle.sequence.specs.Sequence.{Settings, Op, record-op, rollback-op, find-op, list-op, register-op, share-op, move-op, release-op, unshare-op, floor-op, limit-op, db-reader-op, acquire-op, unlock-op, commit-op, backfill-op, seq-op, epoch-op, World, Event, answer-of, next}
 
 -- Pairs (page, frame) in order, and a published number.

@@ -9,7 +9,7 @@ use Rattle.wal_types.specs.Settings.{unused}
 use Rattle.wal_types.specs.Memory.{Memory, Process, no-mark}
 use Rattle.wal_types.specs.Fresh.{fresh-header}
 use Rattle.wal_types.specs.Call.{pair, Answer, refused, ok, value, stored, kept, frame-found, listed, slot-taken}
-use Rattle.frame_index.specs.declared.find.Watermark.the-variants.{NoWatermark}
+use Rattle.index_find.specs.declared.find.Watermark.the-variants.{NoWatermark}
 use Rattle.sequence.specs.Sequence.{Settings, Op, record-op, rollback-op, find-op, list-op, register-op, share-op, release-op, unshare-op, floor-op, limit-op, commit-op, World, Event, answer-of, next}
 use Rattle.sequence.specs.Hold.{direct, shared}
 use Rattle.sequence.specs.Statement.{at-now, Premises}

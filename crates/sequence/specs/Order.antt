@@ -7,13 +7,13 @@ use Rattle.wal_types.specs.declared.SharedWalOwnershipMode.{SharedWalOwnershipM
 use Rattle.wal_types.specs.Memory.{Memory, Process}
 use Rattle.wal_types.specs.Refusal.{rising}
 use Rattle.header.specs.Locks.{acquire-tests, release-tests as unlock-tests}
-use Rattle.frame_index.specs.Index.{index-tests}
-use Rattle.frame_record.specs.Record.{record-tests}
-use Rattle.frame_list.specs.Latest.{list-tests}
-use Rattle.readers.specs.Register.{register-tests}
+use Rattle.index_find.specs.Index.{index-tests}
+use Rattle.index_record.specs.Record.{record-tests}
+use Rattle.list_latest.specs.Latest.{list-tests}
+use Rattle.reader_register.specs.Register.{register-tests}
 use Rattle.reader_moves.specs.Update.{update-tests, release-tests}
 use Rattle.reader_floor.specs.Floor.{probe-tests}
-use Rattle.shared_marks.specs.Shared.{share-tests, unshare-tests}
+use Rattle.reader_shared.specs.Shared.{share-tests, unshare-tests}
 
 -- A field for each list of tests, with the calls that it is the list of. Publishes and bumps are never refused.
 pub record TestsRise : Type 0 where

@@ -10,16 +10,16 @@ use Rattle.wal_types.specs.Fresh.{Fresh, FreshProcess}
 use Rattle.header.specs.declared.locks.Lock.{Lock}
 use Rattle.header.specs.Publish.{publish-commit, publish-backfill, bump-checkpoint-seq, bump-checkpoint-epoch}
 use Rattle.header.specs.Locks.{try-acquire, release}
-use Rattle.frame_index.specs.declared.find.Watermark.{Watermark}
-use Rattle.frame_record.specs.Record.{record-frame}
-use Rattle.frame_record.specs.Rollback.{rollback-frames}
-use Rattle.frame_index.specs.Find.{find-frame}
-use Rattle.frame_list.specs.Latest.{iter-latest-frames}
-use Rattle.readers.specs.Register.{register-reader}
+use Rattle.index_find.specs.declared.find.Watermark.{Watermark}
+use Rattle.index_record.specs.Record.{record-frame}
+use Rattle.index_record.specs.Rollback.{rollback-frames}
+use Rattle.index_find.specs.Find.{find-frame}
+use Rattle.list_latest.specs.Latest.{iter-latest-frames}
+use Rattle.reader_register.specs.Register.{register-reader}
 use Rattle.reader_moves.specs.Update.{update-reader, unregister-reader}
 use Rattle.reader_floor.specs.Floor.{min-active-reader-frame, has-active-db-file-reader}
 use Rattle.reader_limit.specs.Limit.{copy-back-limit}
-use Rattle.shared_marks.specs.Shared.{register-reader-for-snapshot, unregister-reader-for-snapshot}
+use Rattle.reader_shared.specs.Shared.{register-reader-for-snapshot, unregister-reader-for-snapshot}
 
 -- The settings that every call of a sequence is given, good or bad.
 pub record Settings : Type 0 where

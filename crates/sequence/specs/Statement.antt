@@ -3,10 +3,10 @@ use mathlib.Core.Path.{_≡_}
 use mathlib.Core.List.{List, [], _∷_, _++_}
 use Prim.Native.Nat.{ℕ, _≤_}
 use Rattle.wal_types.specs.Call.{Pair, Answer, value, frame-found, listed}
-use Rattle.frame_index.specs.declared.find.Watermark.the-variants.{UpTo, NoWatermark}
-use Rattle.frame_index.specs.Find.{lookup-answer}
-use Rattle.grown_index.specs.Entries.{greatest}
-use Rattle.grown_index.specs.Listed.{IsListOf}
+use Rattle.index_find.specs.declared.find.Watermark.the-variants.{UpTo, NoWatermark}
+use Rattle.index_find.specs.Find.{lookup-answer}
+use Rattle.index_grown.specs.Entries.{greatest}
+use Rattle.index_grown.specs.Listed.{IsListOf}
 use Rattle.sequence.specs.Sequence.{Settings, Op, record-op, rollback-op, find-op, list-op, register-op, share-op, move-op, release-op, unshare-op, floor-op, limit-op, db-reader-op, acquire-op, unlock-op, commit-op, backfill-op, seq-op, epoch-op, World, Event, answer-of, next, run, FreshWorld, Throughout}
 use Rattle.sequence.specs.Book.{Book, empty-book, book-after, InPairs}
 use Rattle.sequence.specs.Hold.{accepted, holders-after, Kind, Begins, Lasts, KeepsAbove, LeavesSlot}

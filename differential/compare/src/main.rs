@@ -25,7 +25,7 @@ const USAGE: &str = "usage: compare FILE                      each call on both 
        compare --exhaustive LENGTH       every state of two slots with each call on readers, and all sequences of up
                                          to LENGTH calls on the index, on both sides
        compare --scripts SEED SEQUENCES [FAMILY..]   prints the short scripts of --random, with dumps
-       compare --cases SEED COUNT        prints cases for crates/recorded_calls; needs no side
+       compare --cases SEED COUNT        prints cases for crates/program_recorded; needs no side
        compare --cases-rust SEED COUNT   the Rust's answers to them
        compare --columns FILE            the Rust's answers to lines of the program, in columns
        compare --program SEED            the program WAL_PROGRAM on inputs of the tool's own making
@@ -207,7 +207,7 @@ fn row(numbers: &[u64]) -> String {
 fn print_cases(_: Sides, words: &[&str]) -> ExitCode {
     let Some((seed, count)) = case_count(words) else { return fault(USAGE) };
     println!(
-        "# Calls with all that they are given, in the rows of crates/recorded_calls/src/calls.rt, and then lines of"
+        "# Calls with all that they are given, in the rows of crates/program_recorded/src/calls.rt, and then lines of"
     );
     println!("# another form. Made by: ./compare --cases {seed} {count}");
     println!("# The answers are the Rust's: ./compare --cases-rust {seed} {count}");

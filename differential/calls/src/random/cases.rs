@@ -1,5 +1,5 @@
 //! Cases: a call with all that it is given, cells and arguments, as a row of numbers, and the Rust's answer with every
-//! cell that the call could have changed. crates/recorded_calls/src/calls.rt describes the rows.
+//! cell that the call could have changed. crates/program_recorded/src/calls.rt describes the rows.
 
 use super::dice::Dice;
 use crate::memory::{Header, HeaderCell, OwnCell, Settings, SharedCell, View, LINUX_OFD, PROCESS_SCOPED_FCNTL, UNUSED};
@@ -170,7 +170,7 @@ impl Case {
         card
     }
 
-    /// The number of a call, as in crates/recorded_calls/src/calls.rt.
+    /// The number of a call, as in crates/program_recorded/src/calls.rt.
     pub fn number(&self) -> u64 {
         match self.call {
             Call::PublishCommit { .. } => 1,
@@ -356,8 +356,8 @@ mod tests {
     use super::*;
     use std::collections::BTreeSet;
 
-    const RECORDED: &str = include_str!("../../../../crates/recorded_calls/stdin");
-    const ANSWERS: &str = include_str!("../../../../crates/recorded_calls/stdout");
+    const RECORDED: &str = include_str!("../../../../crates/program_recorded/stdin");
+    const ANSWERS: &str = include_str!("../../../../crates/program_recorded/stdout");
 
     /// The seed and count that the recorded cases name.
     fn recorded() -> (u64, u64) {

@@ -1,5 +1,5 @@
 use Rattle.reader_floor.proofs.Floored.{db-file-early, db-file-late, db-file-told}
-use Rattle.live_readers.proofs.Looked.{passed-length}
+use Rattle.reader_probe.proofs.Looked.{passed-length}
 use Rattle.reader_slots.proofs.Calls.{enough}
 use native.Mathlib.Omega.{arith}
 use borrow.Author.Needs.{needs}

@@ -1,5 +1,5 @@
 use Rattle.reader_floor.proofs.Floored.{floor-early, floor-late, floor-none, floor-mark}
-use Rattle.live_readers.proofs.Looked.{passed-length}
+use Rattle.reader_probe.proofs.Looked.{passed-length}
 use Rattle.reader_slots.proofs.Calls.{enough}
 use native.Mathlib.Omega.{arith}
 use borrow.Author.Needs.{needs}

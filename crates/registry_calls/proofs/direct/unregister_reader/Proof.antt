@@ -49,15 +49,15 @@ use Rattle.wal_types.proofs.SharedWalOwnershipMode as K
 use Rattle.wal_types.proofs.SharedWalOwnershipMode.Laws as K′
 use Rattle.reader_moves.specs.declared.update.Release.{Release}
 use Rattle.reader_moves.specs.Update.{unregister-reader, release-answer, ReleaseCall}
-use Rattle.shared_marks.specs.Shared.{SharedCall}
+use Rattle.reader_shared.specs.Shared.{SharedCall}
 use Rattle.reader_slots.specs.Slots.{in-registry}
 use Rattle.registry_calls.proofs.Directed.{released}
 use Rattle.reader_moves.proofs.update.Release as S
 use Rattle.reader_moves.proofs.update.Release.Laws as S′
-use Rattle.mark_registry.proofs.slot_is_shared as scan
-use Rattle.mark_registry.proofs.slot_is_shared.Symbol as scan-def
-use Rattle.mark_registry.proofs.slot_is_shared.Symbol.{name as #mark-registry·slot-is-shared}
-use Rattle.mark_registry.proofs.slot_is_shared.Met as scan-thm
+use Rattle.reader_marks.proofs.slot_is_shared as scan
+use Rattle.reader_marks.proofs.slot_is_shared.Symbol as scan-def
+use Rattle.reader_marks.proofs.slot_is_shared.Symbol.{name as #reader-marks·slot-is-shared}
+use Rattle.reader_marks.proofs.slot_is_shared.Met as scan-thm
 use Rattle.reader_moves.proofs.update.unregister_core as core
 use Rattle.reader_moves.proofs.update.unregister_core.Symbol as core-def
 use Rattle.reader_moves.proofs.update.unregister_core.Symbol.{name as #reader-moves·update·unregister-core}
@@ -154,7 +154,7 @@ module _ {M : Type 1} (𝓤 : URA M) (H : Heap 𝓤) (A : Atoms 𝓤) (W : Given
   abbrev Lasts : Type 0
   Lasts = Unit {0} × (Unit {0} × (List ℕ × (List ℕ × (List ℕ × (List ℕ × (Unit {0} × (Unit {0} × (Unit {0} × (Unit {0} × Unit {0})))))))))
 
-  module _ (C : Calls 𝓤 H) (Λ : Loops 𝓤 H) (fm : FmC 𝓤 H (W .laws) C) (known-scan : Triple 𝓤 (C #mark-registry·slot-is-shared) (Scan 𝓤 H A mem run)) (known : Triple 𝓤 (C #reader-moves·update·unregister-core) (Core 𝓤 H A mem run)) where
+  module _ (C : Calls 𝓤 H) (Λ : Loops 𝓤 H) (fm : FmC 𝓤 H (W .laws) C) (known-scan : Triple 𝓤 (C #reader-marks·slot-is-shared) (Scan 𝓤 H A mem run)) (known : Triple 𝓤 (C #reader-moves·update·unregister-core) (Core 𝓤 H A mem run)) where
     walk : ent 𝓤 (onEntry 𝓤 H A entry.signature (κ0, (κ1, (κ2, (κ3, (κ4, tt))))) (q0, (q1, (q2, (q3, (q4, tt))))) a at) (WpFn 𝓤 H C Λ code.function flat Post)
     walk =
         qed W ((‵ (flft κ0 q0) ⊛ ‵ (flft κ1 q1) ⊛ ‵ (flft κ2 q2) ⊛ ‵ (flft κ3 q3) ⊛ ‵ (flft κ4 q4) ⊛ ‵ ftrue) ∷ ‵ (owns (usize ∷ K.the-row ∷ MutSlice (named 0) κ0 u64 ∷ MutSlice (named 1) κ1 u64 ∷ MutSlice (named 2) κ2 u64 ∷ MutSlice (named 3) κ3 u64 ∷ ShrSlice (named 4) κ4 R ∷ usize ∷ O.the-row ∷ []) a at) ∷ []) ∵ enter ! C Λ code.function flat _ $
@@ -211,14 +211,14 @@ module _ {M : Type 1} (𝓤 : URA M) (H : Heap 𝓤) (A : Atoms 𝓤) (W : Given
         by ! (exits r (subst (Is S.the-row r) (EL.tells S.the-type S′.the-laws r (w ∷ []) is) is) (ws .1 .1 .0) (ws .1 .1 .1 .0) (ws .1 .1 .1 .1 .0) (ws .1 .1 .1 .1 .1 .0) (released n sl t ys et (unregister-reader n mo sl (ow .0)) (y1 .now) (y2 .now) (y3 .now) (y4 .now) (release-answer r) (ws .1 .1 .0) (ws .1 .1 .1 .0) (ws .1 .1 .1 .1 .0) (ws .1 .1 .1 .1 .1 .0) ep) k1 k2 k3 k4))))))))))))))))))))))))))))))))))
 
 module _ {M : Type 1} (𝓤 : URA M) (H : Heap 𝓤) (A : Atoms 𝓤) (W : Given 𝓤 H A) (mem : Memory → SProp 𝓤) (run : Routine → Fun 𝓤) where
-  entry-walks : (C : Calls 𝓤 H) (Λ : Loops 𝓤 H) → FmC 𝓤 H (W .laws) C → Triple 𝓤 (C #mark-registry·slot-is-shared) (Scan 𝓤 H A mem run) → Triple 𝓤 (C #reader-moves·update·unregister-core) (Core 𝓤 H A mem run)
+  entry-walks : (C : Calls 𝓤 H) (Λ : Loops 𝓤 H) → FmC 𝓤 H (W .laws) C → Triple 𝓤 (C #reader-marks·slot-is-shared) (Scan 𝓤 H A mem run) → Triple 𝓤 (C #reader-moves·update·unregister-core) (Core 𝓤 H A mem run)
       → Walks 𝓤 H A entry.ended stayed (WpFn 𝓤 H C Λ code.function) (entry.clauses 𝓤 H A mem run)
   entry-walks C Λ fm known-scan known = walked 𝓤 H A entry.ended stayed (entry.clauses 𝓤 H A mem run) (WpFn 𝓤 H C Λ code.function)
       (λ κs. (uint-vals w64, (EL.vals K.the-type K′.the-laws, (slice-vals, (slice-vals, (slice-vals, (slice-vals, (slice-vals, (uint-vals w64, (LL.vals O.the-type O′.the-laws, tt)))))))))) (λ κs. (uint-tells w64, (EL.tells K.the-type K′.the-laws, (mut-slice-tells (named 0) (κs .0) u64, (mut-slice-tells (named 1) (κs .1 .0) u64, (mut-slice-tells (named 2) (κs .1 .1 .0) u64, (mut-slice-tells (named 3) (κs .1 .1 .1 .0) u64, (shr-slice-tells (named 4) (κs .1 .1 .1 .1 .0) R, (uint-tells w64, (LL.tells O.the-type O′.the-laws, tt))))))))))
       (λ κs qs bounds a g are. via 𝓤 _ (fst∗ 𝓤 _ (emp 𝓤))
       (walk 𝓤 H A W mem run (κs .0) (κs .1 .0) (κs .1 .1 .0) (κs .1 .1 .1 .0) (κs .1 .1 .1 .1 .0) (qs .0) (qs .1 .0) (qs .1 .1 .0) (qs .1 .1 .1 .0) (qs .1 .1 .1 .1 .0) (a .1 .1 .1 .1 .1 .1 .0 .ptr .0) (a .1 .1 .1 .1 .1 .1 .0 .ptr .1) (a .1 .1 .1 .1 .1 .1 .0 .name) (a .1 .1 .1 .1 .1 .1 .0 .now) (a .0) (a .1 .0) (a .1 .1 .0) (a .1 .1 .1 .0) (a .1 .1 .1 .1 .0) (a .1 .1 .1 .1 .1 .0) (a .1 .1 .1 .1 .1 .1 .1 .0) (a .1 .1 .1 .1 .1 .1 .1 .1 .0) (are .0 .1) (are .1 .0) (are .1 .1 .0 .0 .1) (are .1 .1 .1 .0 .0 .1) (are .1 .1 .1 .1 .0 .0 .1) (are .1 .1 .1 .1 .1 .0 .0 .1) (are .1 .1 .1 .1 .1 .1 .0 .0 .1) (are .1 .1 .1 .1 .1 .1 .1 .0 .1) (are .1 .1 .1 .1 .1 .1 .1 .1 .0) C Λ fm known-scan known))
 
-entry-meets : {M : Type 1} (𝓤 : URA M) (H : Heap 𝓤) (A : Atoms 𝓤) (W : Given 𝓤 H A) (mem : Memory → SProp 𝓤) (run : Routine → Fun 𝓤) (𝓣 : Tables 𝓤 H) → Triple 𝓤 (𝓣 .C #mark-registry·slot-is-shared) (Scan 𝓤 H A mem run) → Triple 𝓤 (𝓣 .C #reader-moves·update·unregister-core) (Core 𝓤 H A mem run)
+entry-meets : {M : Type 1} (𝓤 : URA M) (H : Heap 𝓤) (A : Atoms 𝓤) (W : Given 𝓤 H A) (mem : Memory → SProp 𝓤) (run : Routine → Fun 𝓤) (𝓣 : Tables 𝓤 H) → Triple 𝓤 (𝓣 .C #reader-marks·slot-is-shared) (Scan 𝓤 H A mem run) → Triple 𝓤 (𝓣 .C #reader-moves·update·unregister-core) (Core 𝓤 H A mem run)
     → Meets 𝓤 H A entry.signature (WpFn 𝓤 H (𝓣 .C) (𝓣 .Λ) code.function) (entry.spec 𝓤 H A mem run)
 entry-meets 𝓤 H A W mem run 𝓣 known-scan known =
     walk-meets 𝓤 H A entry.ended stayed W (goes-none 𝓤 H A W 5 (λ _. usize) yes (λ κs x f. refl), (goes-none 𝓤 H A W 5 (λ _. K.the-row) yes (λ κs x f. refl), (goes-gave-slice 𝓤 H A W 5 0 tt (plain (λ _. u64)), (goes-gave-slice 𝓤 H A W 5 1 tt (plain (λ _. u64)), (goes-gave-slice 𝓤 H A W 5 2 tt (plain (λ _. u64)), (goes-gave-slice 𝓤 H A W 5 3 tt (plain (λ _. u64)), (goes-none-slice 𝓤 H A W 5 (4 ∷ []) tt (plain (λ _. R)) yes, (goes-none 𝓤 H A W 5 (λ _. usize) yes (λ κs x f. refl), (goes-none 𝓤 H A W 5 (λ _. O.the-row) yes (λ κs x f. refl), tt))))))))) (entry.clauses 𝓤 H A mem run)
@@ -230,5 +230,5 @@ unregister-reader-spec 𝓤 H 𝓜 𝓖 𝓡 =
     entered 𝓤 H (tripleOf 𝓤 H (𝓖 .A) entry.signature (entry.spec 𝓤 H (𝓖 .A) (𝓜 .mem) (𝓡 .run)))
     (tables 𝓤 H 𝓜 𝓡 code.env .C) (tables 𝓤 H 𝓜 𝓡 code.env .Λ) #registry-calls·direct·unregister-reader code.function (code.unfolded 𝓤 H 𝓜 𝓡)
     (entry-meets 𝓤 H (𝓖 .A) (givenOf 𝓤 H 𝓜 𝓖) (𝓜 .mem) (𝓡 .run) (tablesOf 𝓤 H 𝓜 (tables 𝓤 H 𝓜 𝓡 code.env))
-    (cited 𝓤 H (Scan 𝓤 H (𝓖 .A) (𝓜 .mem) (𝓡 .run)) 𝓜 𝓡 code.env #mark-registry·slot-is-shared scan-def.routine code.calls-mark-registry·slot-is-shared (scan-thm.met 𝓤 H 𝓜 𝓖 𝓡))
+    (cited 𝓤 H (Scan 𝓤 H (𝓖 .A) (𝓜 .mem) (𝓡 .run)) 𝓜 𝓡 code.env #reader-marks·slot-is-shared scan-def.routine code.calls-reader-marks·slot-is-shared (scan-thm.met 𝓤 H 𝓜 𝓖 𝓡))
     (cited 𝓤 H (Core 𝓤 H (𝓖 .A) (𝓜 .mem) (𝓡 .run)) 𝓜 𝓡 code.env #reader-moves·update·unregister-core core-def.routine code.calls-reader-moves·update·unregister-core (core-thm.met 𝓤 H 𝓜 𝓖 𝓡)))

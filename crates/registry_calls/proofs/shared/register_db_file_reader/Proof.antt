@@ -47,10 +47,10 @@ use Rattle.wal_types.proofs.SharedOwnerRecord as O
 use Rattle.wal_types.proofs.SharedOwnerRecord.Laws as O′
 use Rattle.wal_types.proofs.SharedWalOwnershipMode as K
 use Rattle.wal_types.proofs.SharedWalOwnershipMode.Laws as K′
-use Rattle.shared_marks.specs.declared.shared.Share.{Share as Answered}
-use Rattle.shared_marks.specs.Shared.{register-db-file-reader, share-answer, SharedCall}
-use Rattle.shared_marks.proofs.shared.Share as S
-use Rattle.shared_marks.proofs.shared.Share.Laws as S′
+use Rattle.reader_shared.specs.declared.shared.Share.{Share as Answered}
+use Rattle.reader_shared.specs.Shared.{register-db-file-reader, share-answer, SharedCall}
+use Rattle.reader_shared.proofs.shared.Share as S
+use Rattle.reader_shared.proofs.shared.Share.Laws as S′
 use Rattle.registry_calls.proofs.shared.register_reader_for_snapshot as core
 use Rattle.registry_calls.proofs.shared.register_reader_for_snapshot.Symbol as core-def
 use Rattle.registry_calls.proofs.shared.register_reader_for_snapshot.Symbol.{name as #registry-calls·shared·register-reader-for-snapshot}

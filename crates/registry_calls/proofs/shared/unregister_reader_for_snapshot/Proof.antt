@@ -52,33 +52,33 @@ use Rattle.wal_types.proofs.SharedOwnerRecord as O
 use Rattle.wal_types.proofs.SharedOwnerRecord.Laws as O′
 use Rattle.wal_types.proofs.SharedWalOwnershipMode as K
 use Rattle.wal_types.proofs.SharedWalOwnershipMode.Laws as K′
-use Rattle.mark_registry.specs.declared.Seen.{Seen}
-use Rattle.shared_marks.specs.declared.shared.UnsharePlan.{UnsharePlan}
+use Rattle.reader_marks.specs.declared.Seen.{Seen}
+use Rattle.reader_shared.specs.declared.shared.UnsharePlan.{UnsharePlan}
 use Rattle.reader_moves.specs.declared.update.Release.{Release}
 use Rattle.reader_moves.specs.Update.{release-answer}
-use Rattle.shared_marks.specs.Shared.{unregister-reader-for-snapshot, SharedCall}
-use Rattle.mark_registry.specs.InnerChange.{released}
-use Rattle.mark_registry.specs.InnerScan.{seen-of}
-use Rattle.shared_marks.specs.Inner.{PlanCall}
+use Rattle.reader_shared.specs.Shared.{unregister-reader-for-snapshot, SharedCall}
+use Rattle.reader_marks.specs.InnerChange.{released}
+use Rattle.reader_marks.specs.InnerScan.{seen-of}
+use Rattle.reader_shared.specs.Inner.{PlanCall}
 use Rattle.registry_calls.proofs.Planned.{planned}
-use Rattle.mark_registry.proofs.Seen as N
-use Rattle.mark_registry.proofs.Seen.Laws as N′
-use Rattle.shared_marks.proofs.shared.UnsharePlan as P
-use Rattle.shared_marks.proofs.shared.UnsharePlan.Laws as P′
+use Rattle.reader_marks.proofs.Seen as N
+use Rattle.reader_marks.proofs.Seen.Laws as N′
+use Rattle.reader_shared.proofs.shared.UnsharePlan as P
+use Rattle.reader_shared.proofs.shared.UnsharePlan.Laws as P′
 use Rattle.reader_moves.proofs.update.Release as S
 use Rattle.reader_moves.proofs.update.Release.Laws as S′
-use Rattle.mark_registry.proofs.look_through as scan
-use Rattle.mark_registry.proofs.look_through.Symbol as scan-def
-use Rattle.mark_registry.proofs.look_through.Symbol.{name as #mark-registry·look-through}
-use Rattle.mark_registry.proofs.look_through.Met as scan-thm
-use Rattle.shared_marks.proofs.shared.unshare_plan as core
-use Rattle.shared_marks.proofs.shared.unshare_plan.Symbol as core-def
-use Rattle.shared_marks.proofs.shared.unshare_plan.Symbol.{name as #shared-marks·shared·unshare-plan}
-use Rattle.shared_marks.proofs.shared.unshare_plan.Met as core-thm
-use Rattle.mark_registry.proofs.release_shared_snapshot_reader as stores
-use Rattle.mark_registry.proofs.release_shared_snapshot_reader.Symbol as stores-def
-use Rattle.mark_registry.proofs.release_shared_snapshot_reader.Symbol.{name as #mark-registry·release-shared-snapshot-reader}
-use Rattle.mark_registry.proofs.release_shared_snapshot_reader.Met as stores-thm
+use Rattle.reader_marks.proofs.look_through as scan
+use Rattle.reader_marks.proofs.look_through.Symbol as scan-def
+use Rattle.reader_marks.proofs.look_through.Symbol.{name as #reader-marks·look-through}
+use Rattle.reader_marks.proofs.look_through.Met as scan-thm
+use Rattle.reader_shared.proofs.shared.unshare_plan as core
+use Rattle.reader_shared.proofs.shared.unshare_plan.Symbol as core-def
+use Rattle.reader_shared.proofs.shared.unshare_plan.Symbol.{name as #reader-shared·shared·unshare-plan}
+use Rattle.reader_shared.proofs.shared.unshare_plan.Met as core-thm
+use Rattle.reader_marks.proofs.release_shared_snapshot_reader as stores
+use Rattle.reader_marks.proofs.release_shared_snapshot_reader.Symbol as stores-def
+use Rattle.reader_marks.proofs.release_shared_snapshot_reader.Symbol.{name as #reader-marks·release-shared-snapshot-reader}
+use Rattle.reader_marks.proofs.release_shared_snapshot_reader.Met as stores-thm
 use Rattle.registry_calls.proofs.shared.unregister_reader_for_snapshot.Key.{name as #registry-calls·shared·unregister-reader-for-snapshot}
 use Rattle.registry_calls.proofs.shared.unregister_reader_for_snapshot as entry
 use Rattle.registry_calls.proofs.shared.unregister_reader_for_snapshot.Statement as stated
@@ -209,7 +209,7 @@ module _ {M : Type 1} (𝓤 : URA M) (H : Heap 𝓤) (A : Atoms 𝓤) (W : Given
   goes-put : (p : UnsharePlan) → ent 𝓤 (⋆ 𝓤 H A ((‵ (flft κ4 q4) ⊛ ‵ ftrue) ∷ ‵ (owns (MutSlice (named 0) κ4 R ∷ usize ∷ []) (put p) (putv p)) ∷ [])) (Put 𝓤 H A mem run .pre (to-put p))
   goes-put p = qed W ((‵ (flft κ4 q4) ⊛ ‵ ftrue) ∷ ‵ (owns (MutSlice (named 0) κ4 R ∷ usize ∷ []) (put p) (putv p)) ∷ []) ∵ join ! $ frame ! $ done !
 
-  module _ (C : Calls 𝓤 H) (Λ : Loops 𝓤 H) (fm : FmC 𝓤 H (W .laws) C) (known-scan : Triple 𝓤 (C #mark-registry·look-through) (Scan 𝓤 H A mem run)) (known : Triple 𝓤 (C #shared-marks·shared·unshare-plan) (Core 𝓤 H A mem run)) (known-put : Triple 𝓤 (C #mark-registry·release-shared-snapshot-reader) (Put 𝓤 H A mem run)) where
+  module _ (C : Calls 𝓤 H) (Λ : Loops 𝓤 H) (fm : FmC 𝓤 H (W .laws) C) (known-scan : Triple 𝓤 (C #reader-marks·look-through) (Scan 𝓤 H A mem run)) (known : Triple 𝓤 (C #reader-shared·shared·unshare-plan) (Core 𝓤 H A mem run)) (known-put : Triple 𝓤 (C #reader-marks·release-shared-snapshot-reader) (Put 𝓤 H A mem run)) where
     walk : ent 𝓤 (onEntry 𝓤 H A entry.signature (κ0, (κ1, (κ2, (κ3, (κ4, tt))))) (q0, (q1, (q2, (q3, (q4, tt))))) a at) (WpFn 𝓤 H C Λ code.function flat Post)
     walk =
         qed W ((‵ (flft κ0 q0) ⊛ ‵ (flft κ1 q1) ⊛ ‵ (flft κ2 q2) ⊛ ‵ (flft κ3 q3) ⊛ ‵ (flft κ4 q4) ⊛ ‵ ftrue) ∷ ‵ (owns (usize ∷ K.the-row ∷ MutSlice (named 0) κ0 u64 ∷ MutSlice (named 1) κ1 u64 ∷ MutSlice (named 2) κ2 u64 ∷ MutSlice (named 3) κ3 u64 ∷ MutSlice (named 4) κ4 R ∷ u64 ∷ usize ∷ O.the-row ∷ []) a at) ∷ []) ∵ enter ! C Λ code.function flat _ $
@@ -284,14 +284,14 @@ module _ {M : Type 1} (𝓤 : URA M) (H : Heap 𝓤) (A : Atoms 𝓤) (W : Given
         by ! (exits (p .answer) (answer-is p w ip) (ws .1 .1 .0) (ws .1 .1 .1 .0) (ws .1 .1 .1 .1 .0) (ws .1 .1 .1 .1 .1 .0) (rs .0) (planned n m f (length ys) (unregister-reader-for-snapshot n mo m sl (ow .0)) (y1 .now) (y2 .now) (y3 .now) (y4 .now) (release-answer (p .answer)) (ws .1 .1 .0) (ws .1 .1 .1 .0) (ws .1 .1 .1 .1 .0) (ws .1 .1 .1 .1 .1 .0) (released (p .released)) ep ys ef refl (rs .0) er) k1 k2 k3 k4 k5)))))))))))))))))))))))))))))))))))))))))))))))))
 
 module _ {M : Type 1} (𝓤 : URA M) (H : Heap 𝓤) (A : Atoms 𝓤) (W : Given 𝓤 H A) (mem : Memory → SProp 𝓤) (run : Routine → Fun 𝓤) where
-  entry-walks : (C : Calls 𝓤 H) (Λ : Loops 𝓤 H) → FmC 𝓤 H (W .laws) C → Triple 𝓤 (C #mark-registry·look-through) (Scan 𝓤 H A mem run) → Triple 𝓤 (C #shared-marks·shared·unshare-plan) (Core 𝓤 H A mem run) → Triple 𝓤 (C #mark-registry·release-shared-snapshot-reader) (Put 𝓤 H A mem run)
+  entry-walks : (C : Calls 𝓤 H) (Λ : Loops 𝓤 H) → FmC 𝓤 H (W .laws) C → Triple 𝓤 (C #reader-marks·look-through) (Scan 𝓤 H A mem run) → Triple 𝓤 (C #reader-shared·shared·unshare-plan) (Core 𝓤 H A mem run) → Triple 𝓤 (C #reader-marks·release-shared-snapshot-reader) (Put 𝓤 H A mem run)
       → Walks 𝓤 H A entry.ended stayed (WpFn 𝓤 H C Λ code.function) (entry.clauses 𝓤 H A mem run)
   entry-walks C Λ fm known-scan known known-put = walked 𝓤 H A entry.ended stayed (entry.clauses 𝓤 H A mem run) (WpFn 𝓤 H C Λ code.function)
       (λ κs. (uint-vals w64, (EL.vals K.the-type K′.the-laws, (slice-vals, (slice-vals, (slice-vals, (slice-vals, (slice-vals, (uint-vals w64, (uint-vals w64, (LL.vals O.the-type O′.the-laws, tt))))))))))) (λ κs. (uint-tells w64, (EL.tells K.the-type K′.the-laws, (mut-slice-tells (named 0) (κs .0) u64, (mut-slice-tells (named 1) (κs .1 .0) u64, (mut-slice-tells (named 2) (κs .1 .1 .0) u64, (mut-slice-tells (named 3) (κs .1 .1 .1 .0) u64, (mut-slice-tells (named 4) (κs .1 .1 .1 .1 .0) R, (uint-tells w64, (uint-tells w64, (LL.tells O.the-type O′.the-laws, tt)))))))))))
       (λ κs qs bounds a g are. via 𝓤 _ (fst∗ 𝓤 _ (emp 𝓤))
       (walk 𝓤 H A W mem run (κs .0) (κs .1 .0) (κs .1 .1 .0) (κs .1 .1 .1 .0) (κs .1 .1 .1 .1 .0) (qs .0) (qs .1 .0) (qs .1 .1 .0) (qs .1 .1 .1 .0) (qs .1 .1 .1 .1 .0) (a .1 .1 .1 .1 .1 .1 .0 .ptr .0) (a .1 .1 .1 .1 .1 .1 .0 .ptr .1) (a .1 .1 .1 .1 .1 .1 .0 .name) (a .1 .1 .1 .1 .1 .1 .0 .now) (a .0) (a .1 .0) (a .1 .1 .0) (a .1 .1 .1 .0) (a .1 .1 .1 .1 .0) (a .1 .1 .1 .1 .1 .0) (a .1 .1 .1 .1 .1 .1 .1 .0) (a .1 .1 .1 .1 .1 .1 .1 .1 .0) (a .1 .1 .1 .1 .1 .1 .1 .1 .1 .0) (are .0 .1) (are .1 .0) (are .1 .1 .0 .0 .1) (are .1 .1 .1 .0 .0 .1) (are .1 .1 .1 .1 .0 .0 .1) (are .1 .1 .1 .1 .1 .0 .0 .1) (are .1 .1 .1 .1 .1 .1 .0 .0 .1) (are .1 .1 .1 .1 .1 .1 .1 .0 .1) (are .1 .1 .1 .1 .1 .1 .1 .1 .0 .1) (are .1 .1 .1 .1 .1 .1 .1 .1 .1 .0) C Λ fm known-scan known known-put))
 
-entry-meets : {M : Type 1} (𝓤 : URA M) (H : Heap 𝓤) (A : Atoms 𝓤) (W : Given 𝓤 H A) (mem : Memory → SProp 𝓤) (run : Routine → Fun 𝓤) (𝓣 : Tables 𝓤 H) → Triple 𝓤 (𝓣 .C #mark-registry·look-through) (Scan 𝓤 H A mem run) → Triple 𝓤 (𝓣 .C #shared-marks·shared·unshare-plan) (Core 𝓤 H A mem run) → Triple 𝓤 (𝓣 .C #mark-registry·release-shared-snapshot-reader) (Put 𝓤 H A mem run)
+entry-meets : {M : Type 1} (𝓤 : URA M) (H : Heap 𝓤) (A : Atoms 𝓤) (W : Given 𝓤 H A) (mem : Memory → SProp 𝓤) (run : Routine → Fun 𝓤) (𝓣 : Tables 𝓤 H) → Triple 𝓤 (𝓣 .C #reader-marks·look-through) (Scan 𝓤 H A mem run) → Triple 𝓤 (𝓣 .C #reader-shared·shared·unshare-plan) (Core 𝓤 H A mem run) → Triple 𝓤 (𝓣 .C #reader-marks·release-shared-snapshot-reader) (Put 𝓤 H A mem run)
     → Meets 𝓤 H A entry.signature (WpFn 𝓤 H (𝓣 .C) (𝓣 .Λ) code.function) (entry.spec 𝓤 H A mem run)
 entry-meets 𝓤 H A W mem run 𝓣 known-scan known known-put =
     walk-meets 𝓤 H A entry.ended stayed W (goes-none 𝓤 H A W 5 (λ _. usize) yes (λ κs x f. refl), (goes-none 𝓤 H A W 5 (λ _. K.the-row) yes (λ κs x f. refl), (goes-gave-slice 𝓤 H A W 5 0 tt (plain (λ _. u64)), (goes-gave-slice 𝓤 H A W 5 1 tt (plain (λ _. u64)), (goes-gave-slice 𝓤 H A W 5 2 tt (plain (λ _. u64)), (goes-gave-slice 𝓤 H A W 5 3 tt (plain (λ _. u64)), (goes-gave-slice 𝓤 H A W 5 4 tt (plain (λ _. R)), (goes-none 𝓤 H A W 5 (λ _. u64) yes (λ κs x f. refl), (goes-none 𝓤 H A W 5 (λ _. usize) yes (λ κs x f. refl), (goes-none 𝓤 H A W 5 (λ _. O.the-row) yes (λ κs x f. refl), tt)))))))))) (entry.clauses 𝓤 H A mem run)
@@ -303,6 +303,6 @@ unregister-reader-for-snapshot-spec 𝓤 H 𝓜 𝓖 𝓡 =
     entered 𝓤 H (tripleOf 𝓤 H (𝓖 .A) entry.signature (entry.spec 𝓤 H (𝓖 .A) (𝓜 .mem) (𝓡 .run)))
     (tables 𝓤 H 𝓜 𝓡 code.env .C) (tables 𝓤 H 𝓜 𝓡 code.env .Λ) #registry-calls·shared·unregister-reader-for-snapshot code.function (code.unfolded 𝓤 H 𝓜 𝓡)
     (entry-meets 𝓤 H (𝓖 .A) (givenOf 𝓤 H 𝓜 𝓖) (𝓜 .mem) (𝓡 .run) (tablesOf 𝓤 H 𝓜 (tables 𝓤 H 𝓜 𝓡 code.env))
-    (cited 𝓤 H (Scan 𝓤 H (𝓖 .A) (𝓜 .mem) (𝓡 .run)) 𝓜 𝓡 code.env #mark-registry·look-through scan-def.routine code.calls-mark-registry·look-through (scan-thm.met 𝓤 H 𝓜 𝓖 𝓡))
-    (cited 𝓤 H (Core 𝓤 H (𝓖 .A) (𝓜 .mem) (𝓡 .run)) 𝓜 𝓡 code.env #shared-marks·shared·unshare-plan core-def.routine code.calls-shared-marks·shared·unshare-plan (core-thm.met 𝓤 H 𝓜 𝓖 𝓡))
-    (cited 𝓤 H (Put 𝓤 H (𝓖 .A) (𝓜 .mem) (𝓡 .run)) 𝓜 𝓡 code.env #mark-registry·release-shared-snapshot-reader stores-def.routine code.calls-mark-registry·release-shared-snapshot-reader (stores-thm.met 𝓤 H 𝓜 𝓖 𝓡)))
+    (cited 𝓤 H (Scan 𝓤 H (𝓖 .A) (𝓜 .mem) (𝓡 .run)) 𝓜 𝓡 code.env #reader-marks·look-through scan-def.routine code.calls-reader-marks·look-through (scan-thm.met 𝓤 H 𝓜 𝓖 𝓡))
+    (cited 𝓤 H (Core 𝓤 H (𝓖 .A) (𝓜 .mem) (𝓡 .run)) 𝓜 𝓡 code.env #reader-shared·shared·unshare-plan core-def.routine code.calls-reader-shared·shared·unshare-plan (core-thm.met 𝓤 H 𝓜 𝓖 𝓡))
+    (cited 𝓤 H (Put 𝓤 H (𝓖 .A) (𝓜 .mem) (𝓡 .run)) 𝓜 𝓡 code.env #reader-marks·release-shared-snapshot-reader stores-def.routine code.calls-reader-marks·release-shared-snapshot-reader (stores-thm.met 𝓤 H 𝓜 𝓖 𝓡)))

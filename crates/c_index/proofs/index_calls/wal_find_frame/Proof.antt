@@ -1,0 +1,23 @@
+use Rattle.index_find.specs.Find.{find-frame}
+use Rattle.c_index.proofs.LookupReplies.{find-told}
+use borrow.Author.Needs.{needs}
+use Rattle.c_index.proofs.index_calls.wal_find_frame.Statement.{statement}
+use Rattle.c_index.proofs.index_calls.wal_find_frame.Tie as tie
+
+watermark-of-requires : tie.Need-watermark-of-requires
+watermark-of-requires c κs = search needs
+
+find-frame-requires : tie.Need-find-frame-requires
+find-frame-requires c κs = search needs
+
+looked-up-requires : tie.Need-looked-up-requires
+looked-up-requires c κs = search needs
+
+returns : tie.Need-returns
+returns c =
+    let a = c .before .before .before .before .before .before .args in
+    rw (c .looked-up .ensures, ← c .before .before .watermark-of .ensures) (find-told (find-frame (a .capacity) (a .max-blocks) (a .page-id) (a .min-frame) (a .max-frame) (c .before .before .watermark-of .result)) _ _ _ _ (c .before .find-frame .result) (c .before .find-frame .ensures))
+
+pub wal-find-frame-spec : {M : Type 1} → statement M
+wal-find-frame-spec =
+    tie.close (tie.spec watermark-of-requires find-frame-requires looked-up-requires returns)

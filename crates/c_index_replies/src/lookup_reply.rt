@@ -1,0 +1,69 @@
+// The answers of a lookup and of a list in numbers, and a watermark read from numbers.
+use index_find::find::Found;
+use index_find::find::Watermark;
+use list_latest::List;
+ghost use mathlib.Core.Path.{_≡_};
+ghost use Rattle.c_index_replies.specs.LookupReply.{find-reply, list-reply, watermark-given};
+
+// The answer of a lookup in numbers. found: 1 if there is a frame.
+#[repr(C)]
+pub struct FindReply {
+    pub refusal: u32,
+    pub found: u32,
+    pub frame: u64,
+}
+
+// The answer of a list in numbers: how many pairs are in the first output cells.
+#[repr(C)]
+pub struct ListReply {
+    pub refusal: u32,
+    pub count: u64,
+}
+
+pub fn looked_up(answer: Found) -> FindReply
+    ensures { λ r. ⌜ r ≡ find-reply answer ⌝ }
+{
+    let Found::Frame(frame) = answer else {
+        let Found::Refused(number) = answer else {
+            return FindReply {
+                refusal: 0,
+                found: 0,
+                frame: 0,
+            };
+        };
+        return FindReply {
+            refusal: number,
+            found: 0,
+            frame: 0,
+        };
+    };
+    FindReply {
+        refusal: 0,
+        found: 1,
+        frame: frame,
+    }
+}
+
+pub fn listed(answer: List) -> ListReply
+    ensures { λ r. ⌜ r ≡ list-reply answer ⌝ }
+{
+    match answer {
+        List::Pairs(count) => ListReply {
+            refusal: 0,
+            count: count as u64,
+        },
+        List::Refused(number) => ListReply {
+            refusal: number,
+            count: 0,
+        },
+    }
+}
+
+pub fn watermark_of(has_watermark: u32, watermark: u64) -> Watermark
+    ensures { λ r. ⌜ r ≡ watermark-given «has_watermark» watermark ⌝ }
+{
+    if has_watermark == 0 {
+        return Watermark::NoWatermark;
+    }
+    Watermark::UpTo(watermark)
+}

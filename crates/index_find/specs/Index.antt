@@ -1,0 +1,108 @@
+-- What all calls on the index share: its refusals, its blocks, and the stores of a hash table's clearing and of one entry's naming. Assumes nothing.
+use mathlib.Core.Path.{_≡_}
+use mathlib.Core.Bool.{Bool, not, _||_, cond}
+use mathlib.Core.List.{List, [], _∷_, _++_}
+use Prim.Native.Nat.{ℕ, zero, suc, _+_, _*_, _/_, _%_, _<_, _≤_}
+use lib.Dec.{ltb}
+use lib.ListN.{length, getD, take, drop}
+use Rattle.wal_types.specs.declared.Header.{Header}
+use Rattle.wal_types.specs.Settings.{capacity-in-limits, max-blocks-in-limits, entries-for, cells-for}
+use Rattle.wal_types.specs.Memory.{Memory, Process}
+use Rattle.wal_types.specs.Store.{Store, to-hash, Piece, _then_}
+use Rattle.wal_types.specs.Refusal.{Test, _if_, settings, short-memory}
+use Rattle.wal_types.specs.Call.{Call, Answer, after, done}
+use Rattle.index_hash.specs.declared.Cell.{Cell}
+use Rattle.index_hash.specs.declared.Cell.the-variants.{Empty, Full}
+use Rattle.index_hash.specs.Block.{empty-cell}
+
+-- Refusal 1: a setting out of its limits, length above capacity or 4,096 × blocks, or blocks above B.
+abbrev pub bad-settings : ℕ → ℕ → Header → Bool
+bad-settings capacity b h =
+    not (capacity-in-limits capacity)
+    || not (max-blocks-in-limits b)
+    || ltb capacity (h .«frame_index_len»)
+    || ltb b (h .«frame_index_blocks»)
+    || ltb (entries-for (h .«frame_index_blocks»)) (h .«frame_index_len»)
+
+-- Refusal 2: fewer page, frame or hash cells than B blocks have.
+abbrev pub short-index : ℕ → ℕ → ℕ → ℕ → Bool
+short-index b pages frames hash = ltb pages (entries-for b) || ltb frames (entries-for b) || ltb hash (cells-for b)
+
+-- the refusals that every call on the index has
+abbrev pub index-tests : ℕ → ℕ → Memory → List Test
+index-tests capacity b m =
+    (settings if bad-settings capacity b (m .header))
+    ∷ (short-memory if short-index b (length (m .pages)) (length (m .frames)) (length (m .hash)))
+    ∷ []
+
+-- the number of the first of them, 0 if there is none
+abbrev pub index-refusal : ℕ → ℕ → Header → ℕ → ℕ → ℕ → ℕ
+index-refusal capacity b h pages frames hash =
+    cond (bad-settings capacity b h) 1 (cond (short-index b pages frames hash) 2 0)
+
+-- Entry n is in block n / 4,096, at place n mod 4,096.
+abbrev pub block-of : ℕ → ℕ
+block-of n = n / 4096
+
+abbrev pub place-of : ℕ → ℕ
+place-of n = n % 4096
+
+-- the hash cells of block k, and its pages
+unfoldable pub block-cells-of : ℕ → List ℕ → List ℕ
+block-cells-of k hash = take 8192 (drop (8192 * k) hash)
+
+unfoldable pub block-pages-of : ℕ → List ℕ → List ℕ
+block-pages-of k pages = take 4096 (drop (4096 * k) pages)
+
+-- the hash with other cells for block k
+unfoldable pub with-block : ℕ → List ℕ → List ℕ → List ℕ
+with-block k cells hash = take (8192 * k) hash ++ (cells ++ drop 8192 (drop (8192 * k) hash))
+
+-- Stores of 0 to so many cells from this one on.
+unfoldable pub zero-stores : ℕ → ℕ → List Store
+zero-stores zero cell = []
+zero-stores (suc left) cell = to-hash cell 0 ∷ zero-stores left (cell + 1)
+
+-- Block k's hash is cleared, cell by cell.
+abbrev pub clear-block : ℕ → Piece
+clear-block k m = zero-stores 8192 (8192 * k)
+
+-- Block k's hash names the entry at a place in the cell found for it; in a full table nothing is stored.
+abbrev pub name-stores : ℕ → ℕ → Cell → List Store
+name-stores k place (Empty cell) = to-hash (8192 * k + cell) (place + 1) ∷ []
+name-stores k place Full = []
+
+-- Entry n, of this page, is inserted into its block's hash.
+abbrev pub insert-entry : ℕ → ℕ → Piece
+insert-entry n page m = name-stores (block-of n) (place-of n) (empty-cell (block-cells-of (block-of n) (m .hash)) page)
+
+-- So many entries from entry n on are inserted in order, each by its page.
+unfoldable pub insert-entries : ℕ → ℕ → Piece
+insert-entries zero n m = []
+insert-entries (suc left) n m = (insert-entry n (getD (m .pages) n 0) then insert-entries left (n + 1)) m
+
+-- the lent parts have a place for entry n, and its block's hash
+pub record HasRoom (n pages frames hash : ℕ) : Type 0 where
+  pub below-most : n < 65536
+  pub page-room : n < pages
+  pub frame-room : n < frames
+  pub hash-room : 8192 * (n / 4096) + 8192 ≤ hash
+
+-- a memory with this header and index in it
+abbrev pub index-in : Memory → Header → List ℕ → List ℕ → List ℕ → Memory
+index-in z h pages frames hash =
+    record {
+      header = h;
+      pages = pages;
+      frames = frames;
+      hash = hash;
+      bitmap = z .bitmap;
+      reader-frames = z .reader-frames;
+      reader-owners = z .reader-owners;
+    }
+
+-- The call on any memory with this header and index in it, by any process: it answers a, leaves the header h′ and the index
+-- at pages′, frames′ and hash′, and changes nothing else.
+abbrev pub IndexCall : Call → Header → List ℕ → List ℕ → List ℕ → Answer → Header → List ℕ → List ℕ → List ℕ → Type 0
+IndexCall call h pages frames hash a h′ pages′ frames′ hash′ =
+    (z : Memory) (p : Process) → after call (index-in z h pages frames hash) p ≡ done a (index-in z h′ pages′ frames′ hash′) p

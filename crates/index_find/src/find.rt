@@ -1,0 +1,192 @@
+// find_frame: the latest frame of a page within the bounds.
+use crate::index;
+use index_hash::Probe;
+use wal_types::Header;
+ghost use mathlib.Core.Path.{_≡_};
+ghost use Prim.Native.Nat.{_+_, _-_, _*_, _<_, _≤_, min};
+ghost use lib.ListN.{length};
+ghost use Rattle.index_find.specs.Index.{IndexCall};
+ghost use Rattle.index_find.specs.Find.{visible, probe-block, looked-up, find-in, blocks-for, BlocksFit, upper, lower, find-frame, found-answer};
+
+// A watermark narrows the upper bound, and opens the lower one.
+pub enum Watermark {
+    UpTo(u64),
+    NoWatermark,
+}
+
+// How many entries a reader with this upper bound sees: the source's binary search, as it is written.
+pub fn visible_frame_index_slots(frames: &[u64], len: usize, max_frame: u64) -> usize
+    requires { ⌜ len ≤ length (now frames) ⌝ }
+    ensures { λ r. ⌜ (r ≡ visible (now (frames .entry)) len «max_frame») × (r ≤ len) ⌝ }
+{
+    let mut low = 0;
+    let mut high = len;
+    while low < high {
+        let mid = low + (high - low) / 2;
+        if frames[mid] <= max_frame {
+            low = mid + 1;
+        } else {
+            high = mid;
+        }
+    }
+    low
+}
+
+// A frame found, or none.
+pub enum Lookup {
+    Frame(u64),
+    NoFrame,
+}
+
+// Nothing changes: the answer alone.
+pub enum Found {
+    Frame(u64),
+    NoFrame,
+    Refused(u32),
+}
+
+// Probes block k for the page among its visible entries.
+fn probe_block(pages: &[u64], hash: &[u16], k: usize, page_id: u64, visible_slots: usize) -> Probe
+    requires { ⌜ ((k < 16) × (8192 * k + 8192 ≤ length (now hash))) × (4096 * k + 4096 ≤ length (now pages)) ⌝ }
+    ensures { λ r. ⌜ r ≡ probe-block k «page_id» «visible_slots» (now (pages .entry)) (now (hash .entry)) ⌝ }
+{
+    let a = 8192 * k;
+    let e = a + 8192;
+    let first = 4096 * k;
+    let last = first + 4096;
+    let visible_entries = entries_of_block(visible_slots, first);
+    index_hash::find_frame_in_block(&hash[a..e], &pages[first..last], page_id, visible_entries)
+}
+
+// How many of the visible entries are in the block that starts at entry first.
+fn entries_of_block(visible_slots: usize, first: usize) -> usize
+    ensures { λ r. ⌜ r ≡ min («visible_slots» - first) 4096 ⌝ }
+{
+    if visible_slots <= first {
+        return 0;
+    }
+    if 4096 <= visible_slots - first {
+        return 4096;
+    }
+    visible_slots - first
+}
+
+// The frame of the page's latest visible entry in block k, if it is within the bounds.
+fn find_in_block(
+    pages: &[u64],
+    frames: &[u64],
+    hash: &[u16],
+    k: usize,
+    page_id: u64,
+    visible_slots: usize,
+    min_frame: u64,
+    max_frame: u64,
+) -> Lookup
+    requires { ⌜ ((k < 16) × (8192 * k + 8192 ≤ length (now hash))) × ((4096 * k + 4096 ≤ length (now pages)) × (4096 * k + 4096 ≤ length (now frames))) ⌝ }
+    ensures { λ r. ⌜ r ≡ looked-up k (now (frames .entry)) «min_frame» «max_frame» (probe-block k «page_id» «visible_slots» (now (pages .entry)) (now (hash .entry))) ⌝ }
+{
+    let Probe::At(local_entry) = probe_block(pages, hash, k, page_id, visible_slots) else {
+        return Lookup::NoFrame;
+    };
+    let slot = 4096 * k + local_entry;
+    let frame_id = frames[slot];
+    if frame_id < min_frame {
+        return Lookup::NoFrame;
+    }
+    if max_frame < frame_id {
+        return Lookup::NoFrame;
+    }
+    Lookup::Frame(frame_id)
+}
+
+// The blocks of the visible entries, from the last down.
+fn find_in_blocks(
+    pages: &[u64],
+    frames: &[u64],
+    hash: &[u16],
+    page_id: u64,
+    visible_slots: usize,
+    min_frame: u64,
+    max_frame: u64,
+) -> Lookup
+    requires { ⌜ BlocksFit «visible_slots» (length (now pages)) (length (now frames)) (length (now hash)) ⌝ }
+    ensures { λ r. ⌜ r ≡ find-in (blocks-for «visible_slots») «visible_slots» (now (pages .entry)) (now (frames .entry)) (now (hash .entry)) «page_id» «min_frame» «max_frame» ⌝ }
+{
+    let mut k = (visible_slots + 4095) / 4096;
+    while 0 < k {
+        k -= 1;
+        let found = find_in_block(
+            pages,
+            frames,
+            hash,
+            k,
+            page_id,
+            visible_slots,
+            min_frame,
+            max_frame,
+        );
+        if let Lookup::Frame(frame_id) = found {
+            return Lookup::Frame(frame_id);
+        }
+    }
+    Lookup::NoFrame
+}
+
+// The upper bound, and the lower bound, of a search.
+fn upper_frame(max_frame: u64, frame_watermark: Watermark) -> u64
+    ensures { λ r. ⌜ r ≡ upper «max_frame» «frame_watermark» ⌝ }
+{
+    match frame_watermark {
+        Watermark::UpTo(watermark) => watermark,
+        Watermark::NoWatermark => max_frame,
+    }
+}
+
+fn lower_frame(min_frame: u64, frame_watermark: Watermark) -> u64
+    ensures { λ r. ⌜ r ≡ lower «min_frame» «frame_watermark» ⌝ }
+{
+    match frame_watermark {
+        Watermark::UpTo(_) => 0,
+        Watermark::NoWatermark => min_frame,
+    }
+}
+
+// Looks up the latest frame of the page within the bounds.
+pub fn find_frame(
+    capacity: u32,
+    max_blocks: u32,
+    header: Header,
+    pages: &[u64],
+    frames: &[u64],
+    hash: &[u16],
+    page_id: u64,
+    min_frame: u64,
+    max_frame: u64,
+    frame_watermark: Watermark,
+) -> Found
+    ensures { λ r. ⌜ IndexCall (find-frame capacity «max_blocks» «page_id» «min_frame» «max_frame» «frame_watermark») header (now (pages .entry)) (now (frames .entry)) (now (hash .entry)) (found-answer r) header (now (pages .entry)) (now (frames .entry)) (now (hash .entry)) ⌝ }
+{
+    let refusal = index::index_refusal(
+        capacity,
+        max_blocks,
+        header,
+        pages.len(),
+        frames.len(),
+        hash.len(),
+    );
+    if refusal != 0 {
+        return Found::Refused(refusal);
+    }
+    let upper = upper_frame(max_frame, frame_watermark);
+    if upper < min_frame {
+        return Found::NoFrame;
+    }
+    let lower = lower_frame(min_frame, frame_watermark);
+    let len = header.frame_index_len as usize;
+    let visible_slots = visible_frame_index_slots(frames, len, upper);
+    let found = find_in_blocks(pages, frames, hash, page_id, visible_slots, lower, upper);
+    let Lookup::Frame(frame_id) = found else {
+        return Found::NoFrame;
+    };
+    Found::Frame(frame_id)
+}

@@ -1,0 +1,108 @@
+// What the calls on the index share: the refusals that all of them have, and one block's hash as a part of the whole.
+use index_hash::Cell;
+use wal_types::Header;
+ghost use mathlib.Core.Path.{_≡_};
+ghost use Prim.Native.Nat.{_+_, _*_, _<_, _≤_};
+ghost use lib.ListN.{length, set};
+ghost use Rattle.index_hash.specs.Block.{cleared, empty-cell, built};
+ghost use Rattle.index_find.specs.Index.{bad-settings, short-index, index-refusal, block-cells-of, block-pages-of, with-block};
+
+fn bad_settings(capacity: u32, max_blocks: u32, header: Header) -> bool
+    ensures { λ r. ⌜ r ≡ bad-settings capacity «max_blocks» header ⌝ }
+{
+    if capacity < 1 {
+        return true;
+    }
+    if 65536 < capacity {
+        return true;
+    }
+    if max_blocks < 1 {
+        return true;
+    }
+    if 16 < max_blocks {
+        return true;
+    }
+    if capacity < header.frame_index_len {
+        return true;
+    }
+    if max_blocks < header.frame_index_blocks {
+        return true;
+    }
+    4096 * header.frame_index_blocks < header.frame_index_len
+}
+
+fn short_index(max_blocks: u32, pages: usize, frames: usize, hash: usize) -> bool
+    requires { ⌜ «max_blocks» ≤ 16 ⌝ }
+    ensures { λ r. ⌜ r ≡ short-index «max_blocks» pages frames hash ⌝ }
+{
+    let blocks = max_blocks as usize;
+    if pages < 4096 * blocks {
+        return true;
+    }
+    if frames < 4096 * blocks {
+        return true;
+    }
+    hash < 8192 * blocks
+}
+
+// The number of the refusal that every call on the index has, 0 if there is none.
+pub fn index_refusal(
+    capacity: u32,
+    max_blocks: u32,
+    header: Header,
+    pages: usize,
+    frames: usize,
+    hash: usize,
+) -> u32
+    ensures { λ r. ⌜ r ≡ index-refusal capacity «max_blocks» header pages frames hash ⌝ }
+{
+    if bad_settings(capacity, max_blocks, header) {
+        return 1;
+    }
+    if short_index(max_blocks, pages, frames, hash) {
+        return 2;
+    }
+    0
+}
+
+// Clears block k's hash.
+pub fn clear_block(hash: &mut [u16], k: usize)
+    requires { ⌜ (k < 16) × (8192 * k + 8192 ≤ length (now hash)) ⌝ }
+    ensures { λ _. ⌜ now (hash .exit) ≡ with-block k cleared (now (hash .entry)) ⌝ }
+{
+    let a = 8192 * k;
+    let e = a + 8192;
+    index_hash::clear_frame_index_block_hash(&mut hash[a..e]);
+}
+
+// The cell of block k's hash for a page's next entry.
+pub fn cell_in_block(hash: &[u16], k: usize, page_id: u64) -> Cell
+    requires { ⌜ (k < 16) × (8192 * k + 8192 ≤ length (now hash)) ⌝ }
+    ensures { λ r. ⌜ r ≡ empty-cell (block-cells-of k (now (hash .entry))) «page_id» ⌝ }
+{
+    let a = 8192 * k;
+    let e = a + 8192;
+    index_hash::empty_cell(&hash[a..e], page_id)
+}
+
+// That cell names the entry at a place of block k.
+pub fn name_in_block(hash: &mut [u16], k: usize, cell: usize, local_index: usize)
+    requires { ⌜ ((k < 16) × (8192 * k + 8192 ≤ length (now hash))) × ((cell < 8192) × («local_index» < 4096)) ⌝ }
+    ensures { λ _. ⌜ now (hash .exit) ≡ with-block k (set (block-cells-of k (now (hash .entry))) cell («local_index» + 1)) (now (hash .entry)) ⌝ }
+{
+    let a = 8192 * k;
+    let e = a + 8192;
+    index_hash::name_entry(&mut hash[a..e], cell, local_index);
+}
+
+// Block k's hash is rebuilt for its first entries.
+pub fn rebuild_block(hash: &mut [u16], pages: &[u64], k: usize, entries: usize)
+    requires { ⌜ ((k < 16) × (8192 * k + 8192 ≤ length (now hash))) × ((4096 * k + 4096 ≤ length (now pages)) × (entries ≤ 4096)) ⌝ }
+    ensures { λ _. ⌜ now (hash .exit) ≡ with-block k (built (block-pages-of k (now (pages .entry))) entries) (now (hash .entry)) ⌝ }
+{
+    let a = 8192 * k;
+    let e = a + 8192;
+    let first = 4096 * k;
+    let last = first + 4096;
+    index_hash::rebuild_frame_index_block_hash(&mut hash[a..e], &pages[first..last], entries);
+}

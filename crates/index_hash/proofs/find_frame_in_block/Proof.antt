@@ -1,0 +1,94 @@
+-- The loop's invariant: from this cell on, with what was met last, the probe answers what the whole probe answers.
+use Prim.Native.Nat.{_≤_, _<_, _-_}
+use mathlib.Core.Path.{_≡_}
+use mathlib.Core.Logic.{⊎-elim}
+use Rattle.index_hash.specs.Home.{next-cell}
+use Rattle.index_hash.specs.Block.{probe-from, probe}
+use Rattle.index_hash.proofs.Turns.{probe-start, probe-none-left, probe-at-empty, probe-at-hidden, probe-at-other, probe-at-page}
+use native.Mathlib.Omega.{arith}
+use borrow.Author.Needs.{needs}
+use Rattle.index_hash.proofs.find_frame_in_block.Statement.{statement}
+use Rattle.index_hash.proofs.find_frame_in_block.Tie as tie
+
+abbrev Inv-loop : tie.InvT-loop
+Inv-loop hash pages page-id visible-entries cell₀ latest₀ counter₀ cell latest counter = (counter ≤ 8192) × ((cell < 8192) × (probe-from (8192 - counter) hash pages page-id visible-entries cell latest ≡ probe hash pages page-id visible-entries))
+
+abbrev μ-loop : tie.MeasureT-loop
+μ-loop hash pages page-id visible-entries cell₀ latest₀ counter₀ cell latest counter = 8192 - counter
+
+hash-page-id-requires : tie.Need-hash-page-id-requires Inv-loop μ-loop
+hash-page-id-requires c κs = search needs
+
+loop-holds : tie.Need-loop-holds Inv-loop μ-loop
+loop-holds c = (omega arith, (omega arith, probe-start _ _ _ _ _ (c .hash-page-id .ensures .0)))
+
+mul-local-plus-one : tie.Need-mul-local-plus-one Inv-loop μ-loop
+mul-local-plus-one c = omega arith
+
+shared-slice-read-local-plus-one : tie.Need-shared-slice-read-local-plus-one Inv-loop μ-loop
+shared-slice-read-local-plus-one c = omega arith
+
+cast-local-plus-one : tie.Need-cast-local-plus-one Inv-loop μ-loop
+cast-local-plus-one c = omega (arith, c .shared-slice-known3 .given (c .before .before .loop .cell))
+
+returns : tie.Need-returns Inv-loop μ-loop
+returns c = probe-at-empty _ _ _ _ _ _ _ _ (c .before .before .before .loop .inv .1 .1) (omega arith) (c .if1 .taken)
+
+sub-local-index : tie.Need-sub-local-index Inv-loop μ-loop
+sub-local-index c = omega arith
+
+returns-2 : tie.Need-returns-2 Inv-loop μ-loop
+returns-2 c = probe-at-hidden _ _ _ _ _ _ _ _ (c .before .before .before .before .loop .inv .1 .1) (c .before .if1 .left) (omega arith) (c .if2 .taken)
+
+mul-if3 : tie.Need-mul-if3 Inv-loop μ-loop
+mul-if3 c = omega arith
+
+shared-slice-read-if3 : tie.Need-shared-slice-read-if3 Inv-loop μ-loop
+shared-slice-read-if3 c = omega arith
+
+add-cell : tie.Need-add-cell Inv-loop μ-loop
+add-cell c = omega arith
+
+add-counter : tie.Need-add-counter Inv-loop μ-loop
+add-counter c = omega arith
+
+loop-less : tie.Need-loop-less Inv-loop μ-loop
+loop-less c = omega arith
+
+loop-again : tie.Need-loop-again Inv-loop μ-loop
+unfolding next-cell
+loop-again c = (
+  omega arith,
+  (
+    omega arith,
+    ⊎-elim
+        (λ w. rw (w .1) (probe-at-page _ _ _ _ _ _ _ _ (c .before .before .before .before .before .before .loop .inv .1 .1) (c .before .before .before .if1 .left) _ (omega arith) (c .before .before .if2 .left) (w .0 .taken)))
+        (λ w. rw (w .1) (probe-at-other _ _ _ _ _ _ _ _ (c .before .before .before .before .before .before .loop .inv .1 .1) (c .before .before .before .if1 .left) _ (omega arith) (c .before .before .if2 .left) (w .0 .left)))
+        (c .if3 .came),
+  ),
+)
+
+returns-3 : tie.Need-returns-3 Inv-loop μ-loop
+returns-3 c = probe-none-left _ _ _ _ _ _ _ _ (c .before .loop .inv .1 .1) (omega arith)
+
+pub find-frame-in-block-spec : {M : Type 1} → statement M
+find-frame-in-block-spec =
+    tie.close
+    (tie.spec
+    Inv-loop
+    μ-loop
+    hash-page-id-requires
+    loop-holds
+    mul-local-plus-one
+    shared-slice-read-local-plus-one
+    cast-local-plus-one
+    returns
+    sub-local-index
+    returns-2
+    mul-if3
+    shared-slice-read-if3
+    add-cell
+    add-counter
+    loop-less
+    loop-again
+    returns-3)

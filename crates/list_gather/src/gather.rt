@@ -1,0 +1,136 @@
+// Of the visible entries that the hash names, from the last down, at least each page's latest.
+use list_sort::cell_of;
+ghost use mathlib.Core.Path.{_≡_};
+ghost use mathlib.Core.Bool.{true};
+ghost use mathlib.Core.List.{[], _∷_, _++_};
+ghost use Prim.Native.Nat.{ℕ, _+_, _*_, _/_, _<_, _≤_};
+ghost use lib.Dec.{eqb};
+ghost use lib.ListN.{length, getD, take};
+ghost use Rattle.list_gather.specs.Named.{has-cell};
+ghost use Rattle.list_gather.specs.InnerGathered.{known, down, head-of};
+
+// A cell as an index.
+fn wide(x: u16) -> usize
+    ensures { λ r. ⌜ (r ≡ x) × (r < 65536) ⌝ }
+{
+    x as usize
+}
+
+// The sum of four cells: 0 if they are all empty.
+fn sum_of_four(cells: &[u16], from: usize) -> usize
+    requires { ⌜ from + 4 ≤ length (now cells) ⌝ }
+    ensures { λ r. ⌜ (r ≡ getD (now (cells .entry)) from 0 + getD (now (cells .entry)) (from + 1) 0 + getD (now (cells .entry)) (from + 2) 0 + getD (now (cells .entry)) (from + 3) 0) × (r < 262144) ⌝ }
+{
+    wide(cells[from]) + wide(cells[from + 1]) + wide(cells[from + 2]) + wide(cells[from + 3])
+}
+
+// Eight cells from this one on are empty. Most runs are, where a block has few entries.
+fn empty_run(cells: &[u16], from: usize) -> bool
+    requires { ⌜ from + 8 ≤ length (now cells) ⌝ }
+    ensures { λ r. ⌜ (r ≡ true → (k : ℕ) → k < 8 → getD (now (cells .entry)) (from + k) 0 ≡ 0) ⌝ }
+{
+    sum_of_four(cells, from) + sum_of_four(cells, from + 4) == 0
+}
+
+// A mark for each value of at most 4,096 that one of eight cells has.
+fn mark_run(cells: &[u16], from: usize, marks: &mut [u8])
+    requires { ⌜ (from + 8 ≤ length (now cells)) × (length (now marks) ≡ 4097) ⌝ }
+    ensures { λ _. ⌜ ((v : ℕ) → v < 4097 → known (now (cells .entry)) (from + 8) (now (marks .exit)) v ≡ known (now (cells .entry)) from (now (marks .entry)) v) ⌝ }
+{
+    let mut i = 0;
+    while i < 8usize {
+        let v = wide(cells[from + i]);
+        i += 1;
+        if v <= 4096 {
+            marks[v] = 1;
+        }
+    }
+}
+
+// A mark for each value from 1 to 4,096 that a cell of the block has.
+fn mark_cells(cells: &[u16], marks: &mut [u8])
+    requires { ⌜ (length (now cells) ≡ 8192) × ((length (now marks) ≡ 4097) × ((v : ℕ) → v < 4097 → getD (now marks) v 0 ≡ 0)) ⌝ }
+    ensures { λ _. ⌜ ((v : ℕ) → 0 < v → v < 4097 → eqb (getD (now (marks .exit)) v 0) 1 ≡ has-cell (now (cells .entry)) v) ⌝ }
+{
+    let mut next = 0;
+    while next < 8192usize {
+        let from = next;
+        next += 8;
+        if !empty_run(cells, from) {
+            mark_run(cells, from, marks);
+        }
+    }
+}
+
+// The guess is the place of a gathered entry of this page. Nothing is known of the guess.
+fn is_gathered(pages: &[u64], list: &[u16], count: usize, guess: usize, page: u64) -> bool
+    requires { ⌜ count ≤ length (now list) ⌝ }
+    ensures { λ r. ⌜ (r ≡ true → (guess < count) × (getD (now (pages .entry)) (getD (now (list .entry)) guess 0) 0 ≡ page)) ⌝ }
+{
+    if count <= guess {
+        return false;
+    }
+    cell_of(pages, list[guess]) == page
+}
+
+// Entry n and its page's guess are put behind the entries that are gathered.
+fn append(list: &mut [u16], count: usize, n: usize, guesses: &mut [u16], slot: usize)
+    requires { ⌜ ((count < length (now list)) × (count < 65536)) × ((n < 65536) × (slot < length (now guesses))) ⌝ }
+    ensures { λ _. ⌜ take (count + 1) (now (list .exit)) ≡ take count (now (list .entry)) ++ (n ∷ []) ⌝ }
+{
+    list[count] = n as u16;
+    guesses[slot] = count as u16;
+}
+
+// Block k's named entries below the end, from the last down. An entry is left out where a gathered one is seen to have its
+// page: that one is later.
+fn gather_block(
+    pages: &[u64],
+    hash: &[u16],
+    k: usize,
+    end: usize,
+    list: &mut [u16],
+    before: usize,
+    guesses: &mut [u16],
+) -> usize
+    requires { ⌜ ((k < 16) × (8192 * k + 8192 ≤ length (now hash))) × (((4096 * k ≤ end) × (end ≤ 4096 * k + 4096)) × ((before + end ≤ length (now list)) × ((before + end ≤ 65536) × (length (now guesses) ≡ 1024)))) ⌝ }
+    ensures { λ r. ⌜ (r + 4096 * k ≤ before + end) × ((page : ℕ) → head-of (now (pages .entry)) page (take r (now (list .exit)) ++ down (now (hash .entry)) (4096 * k)) ≡ head-of (now (pages .entry)) page (take before (now (list .entry)) ++ down (now (hash .entry)) end)) ⌝ }
+{
+    let mut marks = [0u8; 4097];
+    let a = 8192 * k;
+    let e = a + 8192;
+    mark_cells(&hash[a..e], &mut marks);
+    let first = 4096 * k;
+    let mut count = before;
+    let mut n = end;
+    while first < n {
+        n -= 1;
+        if marks[n - first + 1] == 1 {
+            let page = cell_of(pages, n as u16);
+            let slot = (page % 1024) as usize;
+            let guess = wide(guesses[slot]);
+            if !is_gathered(pages, list, count, guess, page) {
+                append(list, count, n, guesses, slot);
+                count += 1;
+            }
+        }
+    }
+    count
+}
+
+// Block by block from the last visible one down. Answers how many entries are in the list; one may be left out where a later
+// one of its page is there.
+pub fn gather(pages: &[u64], hash: &[u16], visible: usize, list: &mut [u16]) -> usize
+    requires { ⌜ ((visible ≤ 65536) × (8192 * ((visible + 4095) / 4096) ≤ length (now hash))) × (visible ≤ length (now list)) ⌝ }
+    ensures { λ r. ⌜ (r ≤ visible) × ((page : ℕ) → head-of (now (pages .entry)) page (take r (now (list .exit))) ≡ head-of (now (pages .entry)) page (down (now (hash .entry)) visible)) ⌝ }
+{
+    let mut guesses = [0u16; 1024];
+    let mut count = 0;
+    let mut end = visible;
+    while 0 < end {
+        let k = (end - 1) / 4096;
+        count = gather_block(pages, hash, k, end, list, count, &mut guesses);
+        end = 4096 * k;
+    }
+    count
+}

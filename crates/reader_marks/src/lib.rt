@@ -1,0 +1,302 @@
+// The registry of shared marks: a lent slice of records, one for each mark that connections of this process share.
+use reader_slots::available;
+use wal_types::SharedOwnerRecord;
+use wal_types::SharedReadMark;
+ghost use mathlib.Core.Path.{_≡_};
+ghost use mathlib.Core.Bool.{_&&_, cond};
+ghost use Prim.Native.Nat.{min};
+ghost use lib.ListN.{length};
+ghost use Rattle.reader_slots.specs.Slots.{in-registry};
+ghost use Rattle.reader_marks.specs.declared.Wanted.the-variants.{Mark, Slot, Empty};
+ghost use Rattle.reader_marks.specs.Registry.{is-empty, one-less};
+ghost use Rattle.reader_marks.specs.InnerChange.{one-more-below, first-held, retained, published, released};
+ghost use Rattle.reader_marks.specs.InnerScan.{picks, wants-use, none-picked, nothing-found, found-here, found-of, is-found, seen-alone, seen-with, seen-of};
+
+// A record of the registry found, or none.
+pub enum Record {
+    At(usize),
+    Nothing,
+}
+
+// What a scan looks for: the record of a mark, that of a slot, or an empty one.
+pub enum Wanted {
+    Mark(u64),
+    Slot(usize),
+    Empty,
+}
+
+// What a scan has found: the first record that is wanted, and its contents.
+pub struct Found {
+    pub place: Record,
+    pub item: SharedReadMark,
+}
+
+// What a registration or a release asks of the registry: the record of a mark and its contents and, where there is none, the
+// first empty record.
+pub struct Seen {
+    pub place: Record,
+    pub item: SharedReadMark,
+    pub empty: Record,
+}
+
+// Whether the record is wanted.
+fn is_wanted(m: SharedReadMark, wanted: Wanted) -> bool
+    ensures { λ r. ⌜ r ≡ picks wanted m ⌝ }
+{
+    match wanted {
+        Wanted::Mark(mark) => m.holders != 0 && m.mark == mark,
+        Wanted::Slot(slot) => m.holders != 0 && m.slot as usize == slot,
+        Wanted::Empty => m.holders == 0,
+    }
+}
+
+// Whether none of four records is in use.
+fn all_empty(a: SharedReadMark, b: SharedReadMark, c: SharedReadMark, d: SharedReadMark) -> bool
+    ensures { λ r. ⌜ r ≡ (is-empty a && is-empty b && is-empty c && is-empty d) ⌝ }
+{
+    a.holders as u64 + b.holders as u64 + c.holders as u64 + d.holders as u64 == 0
+}
+
+// Whether a record in use is looked for.
+fn wants_use(wanted: Wanted) -> bool
+    ensures { λ r. ⌜ r ≡ wants-use wanted ⌝ }
+{
+    match wanted {
+        Wanted::Mark(mark) => true,
+        Wanted::Slot(slot) => true,
+        Wanted::Empty => false,
+    }
+}
+
+// Whether none of four records is wanted.
+fn none_wanted(
+    a: SharedReadMark,
+    b: SharedReadMark,
+    c: SharedReadMark,
+    d: SharedReadMark,
+    wanted: Wanted,
+) -> bool
+    ensures { λ r. ⌜ r ≡ none-picked wanted a b c d ⌝ }
+{
+    if all_empty(a, b, c, d) {
+        return wants_use(wanted);
+    }
+    if is_wanted(a, wanted) {
+        return false;
+    }
+    if is_wanted(b, wanted) {
+        return false;
+    }
+    if is_wanted(c, wanted) {
+        return false;
+    }
+    !is_wanted(d, wanted)
+}
+
+// What a scan gives that finds nothing, and one that stops at a record.
+fn nothing_found() -> Found
+    ensures { λ r. ⌜ r ≡ nothing-found ⌝ }
+{
+    Found {
+        place: Record::Nothing,
+        item: SharedReadMark {
+            mark: 0,
+            slot: 0,
+            owner: SharedOwnerRecord(0),
+            holders: 0,
+        },
+    }
+}
+
+fn found_here(i: usize, m: SharedReadMark) -> Found
+    ensures { λ r. ⌜ r ≡ found-here i m ⌝ }
+{
+    let here = Record::At(i);
+    Found {
+        place: here,
+        item: m,
+    }
+}
+
+// One record more: a scan stops at the first that is wanted.
+fn see(stop: usize, i: usize, m: SharedReadMark, wanted: Wanted) -> usize
+    ensures { λ r. ⌜ r ≡ cond (picks wanted m) i stop ⌝ }
+{
+    if is_wanted(m, wanted) {
+        return i;
+    }
+    stop
+}
+
+// The first of the first n records, or of all if there are fewer, that is wanted. Four at a time are passed over where none is.
+fn first_record(registry: &[SharedReadMark], n: usize, wanted: Wanted) -> Found
+    ensures { λ r. ⌜ r ≡ found-of (picks wanted) (now (registry .entry)) (min n (length (now (registry .entry)))) ⌝ }
+{
+    let end = available::smaller(n, registry.len());
+    let mut stop = end;
+    let mut i = 0;
+    while i < stop {
+        let mut pass = false;
+        if 4 <= stop - i {
+            pass = none_wanted(
+                registry[i],
+                registry[i + 1],
+                registry[i + 2],
+                registry[i + 3],
+                wanted,
+            );
+        }
+        if pass {
+            i += 4;
+        } else {
+            stop = see(stop, i, registry[i], wanted);
+            i += 1;
+        }
+    }
+    if stop < end {
+        return found_here(stop, registry[stop]);
+    }
+    nothing_found()
+}
+
+// The three scans: for a mark, for a slot, for an empty record.
+fn mark_wanted(mark: u64) -> Wanted
+    ensures { λ r. ⌜ r ≡ Mark mark ⌝ }
+{
+    Wanted::Mark(mark)
+}
+
+fn slot_wanted(slot: usize) -> Wanted
+    ensures { λ r. ⌜ r ≡ Slot slot ⌝ }
+{
+    Wanted::Slot(slot)
+}
+
+fn empty_wanted() -> Wanted
+    ensures { λ r. ⌜ r ≡ Empty ⌝ }
+{
+    Wanted::Empty
+}
+
+fn is_found(place: Record) -> bool
+    ensures { λ r. ⌜ r ≡ is-found place ⌝ }
+{
+    match place {
+        Record::At(i) => true,
+        Record::Nothing => false,
+    }
+}
+
+// What is seen where the mark has a record, and where it has none.
+fn seen_alone(found: Found) -> Seen
+    ensures { λ r. ⌜ r ≡ seen-alone found ⌝ }
+{
+    let place = found.place;
+    let item = found.item;
+    let free = Record::Nothing;
+    Seen {
+        place: place,
+        item: item,
+        empty: free,
+    }
+}
+
+fn seen_with(found: Found, empty: Found) -> Seen
+    ensures { λ r. ⌜ r ≡ seen-with found empty ⌝ }
+{
+    let place = found.place;
+    let item = found.item;
+    let free = empty.place;
+    Seen {
+        place: place,
+        item: item,
+        empty: free,
+    }
+}
+
+// Looks for a mark among the first n records, or all if there are fewer, and for an empty one where the mark has none.
+pub fn look_through(registry: &[SharedReadMark], n: usize, mark: u64) -> Seen
+    ensures { λ r. ⌜ r ≡ seen-of (min n (length (now (registry .entry)))) (now (registry .entry)) mark ⌝ }
+{
+    let found = first_record(registry, n, mark_wanted(mark));
+    if is_found(found.place) {
+        return seen_alone(found);
+    }
+    let free = first_record(registry, n, empty_wanted());
+    seen_with(found, free)
+}
+
+// Whether one of the first n records is in use for the slot.
+pub fn slot_is_shared(registry: &[SharedReadMark], n: usize, slot: usize) -> bool
+    ensures { λ r. ⌜ r ≡ in-registry n (now (registry .entry)) slot ⌝ }
+{
+    let found = first_record(registry, n, slot_wanted(slot));
+    is_found(found.place)
+}
+
+// A record with a holder more. One with 65,535 holders or more stays as it is.
+fn with_holder_more(m: SharedReadMark) -> SharedReadMark
+    ensures { λ r. ⌜ r ≡ one-more-below m ⌝ }
+{
+    let mut next = m;
+    if m.holders < 65535 {
+        next.holders = m.holders + 1;
+    }
+    next
+}
+
+// A record with a holder less. With 0 holders left it is empty.
+fn with_holder_less(m: SharedReadMark) -> SharedReadMark
+    ensures { λ r. ⌜ r ≡ one-less m ⌝ }
+{
+    let mut next = m;
+    if 0 < m.holders {
+        next.holders = m.holders - 1;
+    }
+    next
+}
+
+// A new record, with its first holder.
+fn first_held(mark: u64, slot: u32, owner: SharedOwnerRecord) -> SharedReadMark
+    ensures { λ r. ⌜ r ≡ first-held mark slot owner ⌝ }
+{
+    SharedReadMark {
+        mark: mark,
+        slot: slot,
+        owner: owner,
+        holders: 1,
+    }
+}
+
+// A connection more shares the mark of a record. Past the end nothing is written.
+pub fn retain_shared_snapshot_reader(registry: &mut [SharedReadMark], at: usize)
+    ensures { λ _. ⌜ now (registry .exit) ≡ retained at (now (registry .entry)) ⌝ }
+{
+    if at < registry.len() {
+        registry[at] = with_holder_more(registry[at]);
+    }
+}
+
+// A new mark for connections to share, in an empty record. Past the end nothing is written.
+pub fn publish_shared_snapshot_reader(
+    registry: &mut [SharedReadMark],
+    at: usize,
+    mark: u64,
+    slot: u32,
+    owner: SharedOwnerRecord,
+)
+    ensures { λ _. ⌜ now (registry .exit) ≡ published at mark slot owner (now (registry .entry)) ⌝ }
+{
+    if at < registry.len() {
+        registry[at] = first_held(mark, slot, owner);
+    }
+}
+
+// A connection less shares the mark of a record. Past the end nothing is written.
+pub fn release_shared_snapshot_reader(registry: &mut [SharedReadMark], at: usize)
+    ensures { λ _. ⌜ now (registry .exit) ≡ released at (now (registry .entry)) ⌝ }
+{
+    if at < registry.len() {
+        registry[at] = with_holder_less(registry[at]);
+    }
+}

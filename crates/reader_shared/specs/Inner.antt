@@ -1,0 +1,63 @@
+-- Words for the contracts of the inner functions: the calls' tests, over single cells and lists. No contract of a call cites
+-- them. Assumes nothing.
+use mathlib.Core.Path.{_≡_}
+use mathlib.Core.Bool.{Bool, not, _&&_, _||_, cond}
+use mathlib.Core.List.{List, [], _∷_}
+use Prim.Native.Nat.{ℕ, min}
+use lib.Dec.{eqb, ltb}
+use lib.ListN.{length, getD}
+use Rattle.wal_types.specs.declared.SharedReadMark.{SharedReadMark}
+use Rattle.wal_types.specs.declared.SharedWalOwnershipMode.{SharedWalOwnershipMode}
+use Rattle.wal_types.specs.Settings.{slots-in-limits, unused, is-fcntl}
+use Rattle.wal_types.specs.Memory.{slot-bit}
+use Rattle.wal_types.specs.Refusal.{_if_, lowest, settings, short-memory, not-held, other-owner, no-owner, unused-mark, no-such-mark}
+use Rattle.wal_types.specs.Call.{Call, Answer}
+use Rattle.reader_slots.specs.Slots.{shorter}
+use Rattle.reader_slots.specs.Search.{found-slot, lowest-slot, some-slot}
+use Rattle.reader_slots.specs.Inner.{available-by}
+use Rattle.reader_marks.specs.declared.Seen.{Seen}
+use Rattle.reader_marks.specs.InnerScan.{seen-of}
+use Rattle.reader_shared.specs.declared.shared.Share.{Share}
+use Rattle.reader_shared.specs.declared.shared.Share.the-variants.{NoSlot as NotTaken, Refused as NotShared}
+use Rattle.reader_shared.specs.Shared.{SharedCall}
+
+-- the number of refusal 1, 2, 9 or 10, 0 for none of them
+unfoldable pub share-refusal : ℕ → ℕ → ℕ → ℕ → ℕ → ℕ → ℕ → ℕ → ℕ
+share-refusal n words frames owners locals records owner mark =
+    lowest
+    ((settings if not (slots-in-limits n))
+    ∷ (short-memory if (shorter n words frames owners locals || ltb records n))
+    ∷ (no-owner if eqb owner 0)
+    ∷ (unused-mark if eqb mark unused)
+    ∷ [])
+
+-- a slot that is reclaimed, by its cells and by lists
+abbrev pub stale-cell : SharedWalOwnershipMode → ℕ → ℕ → ℕ → ℕ → Bool
+stale-cell mode bit owner local byte = not (eqb bit 1) && not (not (eqb local 0)) && eqb byte 1 && not (is-fcntl mode && eqb owner 0)
+
+abbrev pub stale-by : SharedWalOwnershipMode → List ℕ → List ℕ → List ℕ → List ℕ → ℕ → Bool
+stale-by mode bytes b o l i = stale-cell mode (slot-bit b i) (getD o i 0) (getD l i 0) (getD bytes i 0)
+
+-- the answer to a new mark where no record is empty: refused if a slot is available, or would be after a reclaim
+unfoldable pub no-record-answer : ℕ → SharedWalOwnershipMode → List ℕ → List ℕ → List ℕ → List ℕ → Share
+no-record-answer n mode bytes b o l =
+    cond (found-slot (lowest-slot (available-by b l bytes) n 0) || some-slot (stale-by mode bytes b o l) n 0) (NotShared 13) NotTaken
+
+-- the number of refusal 9, 10 or 12, 0 for none of them
+unfoldable pub mark-refusal : ℕ → ℕ → Bool → ℕ
+mark-refusal owner mark known =
+    lowest ((no-owner if eqb owner 0) ∷ (unused-mark if eqb mark unused) ∷ (no-such-mark if not known) ∷ [])
+
+-- the number of refusal 7 or 8 of a last holder, by the slot's shared and local owners; 0 for neither
+unfoldable pub last-refusal : SharedWalOwnershipMode → ℕ → ℕ → ℕ → ℕ
+last-refusal mode owner shared local =
+    lowest
+    ((not-held if not (not (eqb local 0)))
+    ∷ (other-owner if (not (eqb owner shared) || (is-fcntl mode && not (eqb owner local))))
+    ∷ [])
+
+-- The call where the registry has so many records and a scan of the first n has seen this: it answers a, leaves the lists
+-- b′, f′, o′ and l′, makes this change to the registry, and changes nothing else.
+unfoldable pub PlanCall : ℕ → ℕ → Seen → ℕ → Call → List ℕ → List ℕ → List ℕ → List ℕ → Answer → List ℕ → List ℕ → List ℕ → List ℕ → (List SharedReadMark → List SharedReadMark) → Type 0
+PlanCall n mark seen records call b f o l a b′ f′ o′ l′ change =
+    (r : List SharedReadMark) → seen ≡ seen-of (min n (length r)) r mark → records ≡ length r → SharedCall call b f o l r a b′ f′ o′ l′ (change r)
