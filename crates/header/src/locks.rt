@@ -3,6 +3,7 @@
 use wal_types::Header;
 use wal_types::SharedOwnerRecord;
 use wal_types::SharedWalOwnershipMode;
+use wal_types::refusal;
 ghost use mathlib.Core.Path.{_≡_};
 ghost use mathlib.Core.Bool.{not, _&&_};
 ghost use lib.Dec.{eqb};
@@ -55,10 +56,10 @@ fn acquire_lock(
     ensures { λ r. ⌜ LockCall lock (try-acquire lock (owner .0) card) header («local_owner» .0) (acquire-answer r) (acquire-header header r) (acquire-local («local_owner» .0) r) ⌝ }
 {
     if owner.0 == 0 {
-        return Acquire::Refused(9);
+        return Acquire::Refused(refusal::NO_OWNER);
     }
     if 2 < card {
-        return Acquire::Refused(14);
+        return Acquire::Refused(refusal::CARD);
     }
     if local_owner.0 != 0 {
         return Acquire::Busy;
@@ -93,13 +94,13 @@ fn release_lock(
     ensures { λ r. ⌜ LockCall lock (release lock mode (owner .0)) header («local_owner» .0) (release-answer r) (release-header header r) (release-local («local_owner» .0) r) ⌝ }
 {
     if local_owner.0 == 0 {
-        return Release::Refused(7);
+        return Release::Refused(refusal::NOT_HELD);
     }
     if by_other_owner(mode, local_owner, owner) {
-        return Release::Refused(8);
+        return Release::Refused(refusal::OTHER_OWNER);
     }
     if owner.0 == 0 {
-        return Release::Refused(9);
+        return Release::Refused(refusal::NO_OWNER);
     }
     let nobody = SharedOwnerRecord(0);
     Release::Released(with_owner(lock, header, nobody), nobody)

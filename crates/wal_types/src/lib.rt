@@ -1,5 +1,7 @@
 // The words of the shared coordination memory: owners, the header's cells, the registry's records and the lock mode.
 // The definitions that all calls share (settings, memory, stores, answers, refusals, fresh memory) are in specs/.
+pub mod refusal;
+
 ghost use mathlib.Core.Path.{_≡_};
 ghost use Prim.Native.Nat.{_+_, _*_, _/_, _%_, _^_};
 
