@@ -6,6 +6,7 @@
 #include <errno.h>
 #include <fcntl.h>
 #include <inttypes.h>
+#include <limits.h>
 #include <signal.h>
 #include <stdio.h>
 #include <stdlib.h>
@@ -506,7 +507,13 @@ static void story(const char *path) {
 }
 
 int main(void) {
-    char path[] = "/tmp/wal_coordination-XXXXXX";
+    const char *folder = getenv("TMPDIR");
+    char path[PATH_MAX];
+    int length = snprintf(path, sizeof path, "%s/wal_coordination-XXXXXX", folder && *folder ? folder : P_tmpdir);
+    if (length < 0 || (size_t)length >= sizeof path) {
+        fprintf(stderr, "TMPDIR is too long\n");
+        return 1;
+    }
     int made = mkstemp(path);
     if (made < 0 || ftruncate(made, sizeof *shared) != 0)
         fail(path);
