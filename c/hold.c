@@ -37,7 +37,8 @@ static void record(uint64_t page, uint64_t frame) {
                                                 BLOCKS * WAL_BLOCK_ENTRIES, hash, BLOCKS * WAL_BLOCK_HASH_CELLS, page,
                                                 frame, 0);
     if (r.refusal != 0)
-        printf("record page %" PRIu64 " frame %" PRIu64 ": refused %" PRIu32 "\n", page, frame, r.refusal);
+        printf("record page %" PRIu64 " frame %" PRIu64 ": refused %" PRIu32 ", %s\n", page, frame, r.refusal,
+               wal_refusal_text(r.refusal));
     else
         printf("record page %" PRIu64 " frame %" PRIu64 ": %s\n", page, frame, r.answer == 1 ? "stored" : "dropped");
 }

@@ -39,8 +39,8 @@
  *     locks. WAL_PROCESS_SCOPED_FCNTL: to close any descriptor of the file frees all locks of the process.
  *
  * Every call ends. A refused call answers the number of its refusal alone and changes nothing (docs/REFUSALS.md); 0
- * means accepted. The comment of a function is its contract in words; the contract itself is in the source of
- * crates/c_header, crates/c_index and crates/c_readers. */
+ * means accepted. wal_refusal_text says a number in words. The comment of a function is its contract in words; the
+ * contract itself is in the source of crates/c_header, crates/c_index and crates/c_readers. */
 #ifndef WAL_COORDINATION_H
 #define WAL_COORDINATION_H
 
@@ -50,6 +50,14 @@
 #ifdef __cplusplus
 extern "C" {
 #endif
+
+/* The version of this header and its library; the Rust crate has the same. As one number 1.2.3 is 1002003. */
+#define WAL_COORDINATION_VERSION_MAJOR 0
+#define WAL_COORDINATION_VERSION_MINOR 1
+#define WAL_COORDINATION_VERSION_PATCH 0
+#define WAL_COORDINATION_VERSION                                                       \
+    (WAL_COORDINATION_VERSION_MAJOR * 1000000 + WAL_COORDINATION_VERSION_MINOR * 1000 + \
+     WAL_COORDINATION_VERSION_PATCH)
 
 /* The limits of the settings. */
 #define WAL_MAX_CAPACITY 65536 /* entries of the index */
@@ -89,6 +97,35 @@ enum {
     WAL_REFUSED_CARD = 14,
     WAL_REFUSED_PROBE = 15
 };
+
+/* A refusal's word, and when it is given, for a host's log. The text stands in this header and not in the library: all
+ * code of the library is proved, and a host in C or C++ needs no second file to link. */
+static inline const char *wal_refusal_text(uint32_t refusal) {
+    switch (refusal) {
+    case 0: return "accepted";
+    case WAL_REFUSED_SETTINGS:
+        return "settings: a setting is out of its limits, or the index has more entries than capacity or blocks "
+               "allow, or more blocks than its maximum";
+    case WAL_REFUSED_SHORT_MEMORY: return "short memory: a lent part is shorter than the settings ask";
+    case WAL_REFUSED_FRAME_ORDER: return "frame order: the frame is not above the last one recorded";
+    case WAL_REFUSED_HASH_FULL: return "hash full: the block's hash has no empty cell: the memory is damaged";
+    case WAL_REFUSED_SHORT_LIST: return "short list: there are more pairs than output cells";
+    case WAL_REFUSED_SLOT_NUMBER: return "slot number: there is no such slot";
+    case WAL_REFUSED_NOT_HELD: return "not held: what is to be released is not held by this process";
+    case WAL_REFUSED_OTHER_OWNER: return "other owner: the slot or lock has another owner";
+    case WAL_REFUSED_NO_OWNER: return "no owner: owner 0 is no owner";
+    case WAL_REFUSED_UNUSED_MARK:
+        return "unused mark: the greatest 64-bit number stands for an unused slot and cannot be a mark";
+    case WAL_REFUSED_SHARED_SLOT:
+        return "shared slot: the slot is held by a shared registration and is released by a shared release";
+    case WAL_REFUSED_NO_SUCH_MARK: return "no such mark: the mark is not registered with this slot and owner";
+    case WAL_REFUSED_REGISTRY:
+        return "registry: the mark has 65,535 holders already, or no record is empty: the registry is damaged";
+    case WAL_REFUSED_CARD: return "card: the lock answers are not one for each slot, each 0, 1 or 2";
+    case WAL_REFUSED_PROBE: return "probe: a reader's lock could not be asked";
+    default: return "unknown";
+    }
+}
 
 /* The header of the shared memory. Fresh: frame_index_blocks is the number of starting blocks, all else 0. */
 struct wal_header {
@@ -329,6 +366,72 @@ struct wal_db_file_reply wal_has_active_db_file_reader(size_t n, uint32_t mode, 
                                                        uint64_t *reader_owners, size_t reader_owners_len,
                                                        const uint64_t *local_readers, size_t local_readers_len,
                                                        const uint8_t *card, size_t card_len);
+
+/* --- Layout ---------------------------------------------------------------------------------------------------------
+ *
+ * The byte at which the library has each field, and the size of each struct. Under flags or pragmas that pack structs
+ * in another way a host would lend and read other cells than it means to: there this header does not compile. */
+
+#if defined(__cplusplus) && __cplusplus >= 201103L
+#define WAL_LAYOUT(what, bytes) static_assert((what) == (bytes), #what " is not " #bytes)
+#elif !defined(__cplusplus) && defined(__STDC_VERSION__) && __STDC_VERSION__ >= 201112L
+#define WAL_LAYOUT(what, bytes) _Static_assert((what) == (bytes), #what " is not " #bytes)
+#else /* before C11 and C++11: no array has a negative size */
+#define WAL_LAYOUT(what, bytes) extern char wal_layout_is_another[(what) == (bytes) ? 1 : -1]
+#endif
+
+WAL_LAYOUT(sizeof(size_t), 8);
+WAL_LAYOUT(offsetof(struct wal_header, frame_index_blocks), 0);
+WAL_LAYOUT(offsetof(struct wal_header, frame_index_len), 4);
+WAL_LAYOUT(offsetof(struct wal_header, frame_index_overflowed), 8);
+WAL_LAYOUT(offsetof(struct wal_header, max_frame), 16);
+WAL_LAYOUT(offsetof(struct wal_header, nbackfills), 24);
+WAL_LAYOUT(offsetof(struct wal_header, transaction_count), 32);
+WAL_LAYOUT(offsetof(struct wal_header, visibility_generation), 40);
+WAL_LAYOUT(offsetof(struct wal_header, checkpoint_seq), 48);
+WAL_LAYOUT(offsetof(struct wal_header, checkpoint_epoch), 52);
+WAL_LAYOUT(offsetof(struct wal_header, checksum_1), 56);
+WAL_LAYOUT(offsetof(struct wal_header, checksum_2), 60);
+WAL_LAYOUT(offsetof(struct wal_header, writer_owner), 64);
+WAL_LAYOUT(offsetof(struct wal_header, checkpoint_owner), 72);
+WAL_LAYOUT(sizeof(struct wal_header), 80);
+WAL_LAYOUT(offsetof(struct wal_shared_read_mark, mark), 0);
+WAL_LAYOUT(offsetof(struct wal_shared_read_mark, slot), 8);
+WAL_LAYOUT(offsetof(struct wal_shared_read_mark, owner), 16);
+WAL_LAYOUT(offsetof(struct wal_shared_read_mark, holders), 24);
+WAL_LAYOUT(sizeof(struct wal_shared_read_mark), 32);
+WAL_LAYOUT(offsetof(struct wal_lock_reply, refusal), 0);
+WAL_LAYOUT(offsetof(struct wal_lock_reply, answer), 4);
+WAL_LAYOUT(offsetof(struct wal_lock_reply, local_owner), 8);
+WAL_LAYOUT(sizeof(struct wal_lock_reply), 16);
+WAL_LAYOUT(offsetof(struct wal_index_reply, refusal), 0);
+WAL_LAYOUT(offsetof(struct wal_index_reply, answer), 4);
+WAL_LAYOUT(sizeof(struct wal_index_reply), 8);
+WAL_LAYOUT(offsetof(struct wal_find_reply, refusal), 0);
+WAL_LAYOUT(offsetof(struct wal_find_reply, found), 4);
+WAL_LAYOUT(offsetof(struct wal_find_reply, frame), 8);
+WAL_LAYOUT(sizeof(struct wal_find_reply), 16);
+WAL_LAYOUT(offsetof(struct wal_list_reply, refusal), 0);
+WAL_LAYOUT(offsetof(struct wal_list_reply, count), 8);
+WAL_LAYOUT(sizeof(struct wal_list_reply), 16);
+WAL_LAYOUT(offsetof(struct wal_reader_reply, refusal), 0);
+WAL_LAYOUT(offsetof(struct wal_reader_reply, taken), 4);
+WAL_LAYOUT(offsetof(struct wal_reader_reply, slot), 8);
+WAL_LAYOUT(offsetof(struct wal_reader_reply, owner), 16);
+WAL_LAYOUT(offsetof(struct wal_reader_reply, mark), 24);
+WAL_LAYOUT(sizeof(struct wal_reader_reply), 32);
+WAL_LAYOUT(offsetof(struct wal_floor_reply, refusal), 0);
+WAL_LAYOUT(offsetof(struct wal_floor_reply, found), 4);
+WAL_LAYOUT(offsetof(struct wal_floor_reply, mark), 8);
+WAL_LAYOUT(sizeof(struct wal_floor_reply), 16);
+WAL_LAYOUT(offsetof(struct wal_limit_reply, refusal), 0);
+WAL_LAYOUT(offsetof(struct wal_limit_reply, limit), 8);
+WAL_LAYOUT(sizeof(struct wal_limit_reply), 16);
+WAL_LAYOUT(offsetof(struct wal_db_file_reply, refusal), 0);
+WAL_LAYOUT(offsetof(struct wal_db_file_reply, active), 4);
+WAL_LAYOUT(sizeof(struct wal_db_file_reply), 8);
+
+#undef WAL_LAYOUT
 
 #ifdef __cplusplus
 }
