@@ -1,6 +1,7 @@
 /* The shared frame index of a write-ahead log, its reader slots, locks and counters.
  *
- * Link with libwal_coordination.a, which ./build proves and writes. x86-64, System V calling convention.
+ * Link with libwal_coordination.a, which ./build proves and writes and ./install puts where pkg-config finds it. x86-64,
+ * System V calling convention.
  *
  * What the caller keeps to. The library is proved for any numbers and any contents of the memory that it is lent;
  * these points it cannot see:
