@@ -6,7 +6,7 @@ ghost use Prim.Native.Nat.{_+_, _<_, _≤_};
 ghost use lib.ListN.{length, getD, take, drop};
 ghost use Rattle.list_choose.specs.Chosen.{in-bounds, firsts};
 
-// Some other page.
+// Some other page. Every number is a page, so none could stand for "no page yet" before the first entry.
 fn other_page(page: u64) -> u64
     ensures { λ r. ⌜ (page ≡ r → ⊥) ⌝ }
 {
@@ -36,7 +36,8 @@ fn choose_entry(
     count + 1
 }
 
-// The first of each run of one page, if its frame is within the bounds.
+// The first of each run of one page, if its frame is within the bounds. No later one of the run is taken in its place: its frame
+// is older. Entries that the guesses of the gathering let through twice end here.
 pub fn choose(
     pages: &[u64],
     frames: &[u64],

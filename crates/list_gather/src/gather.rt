@@ -1,4 +1,11 @@
 // Of the visible entries that the hash names, from the last down, at least each page's latest.
+//
+// Most logs write the same pages over and over, and what is gathered has to be sorted. So a cache of 1,024 guesses stands
+// beside the list: for the pages of one remainder by 1,024, the place of the entry gathered of them last. A guess is only
+// asked: `is_gathered` looks at the page of the entry that stands there. One that another page has overwritten, or that was
+// never made, lets an entry through that the choice drops after the sort; it cannot leave a page out. That is why the contract
+// says no more than each page's first. An exact table would need room for 65,536 pages, cleared at every call. Without the
+// guesses a list over 65,536 entries of 100 pages took three times as long; where all pages differ, as long as with them.
 use list_sort::cell_of;
 ghost use mathlib.Core.Path.{_≡_};
 ghost use mathlib.Core.Bool.{true};
@@ -24,7 +31,8 @@ fn sum_of_four(cells: &[u16], from: usize) -> usize
     wide(cells[from]) + wide(cells[from + 1]) + wide(cells[from + 2]) + wide(cells[from + 3])
 }
 
-// Eight cells from this one on are empty. Most runs are, where a block has few entries.
+// Eight cells from this one on are empty. Most runs are, where a block has few entries: a list of one entry still looks at all
+// 8,192 cells of a block, which is nearly all that it costs.
 fn empty_run(cells: &[u16], from: usize) -> bool
     requires { ⌜ from + 8 ≤ length (now cells) ⌝ }
     ensures { λ r. ⌜ (r ≡ true → (k : ℕ) → k < 8 → getD (now (cells .entry)) (from + k) 0 ≡ 0) ⌝ }
@@ -47,7 +55,8 @@ fn mark_run(cells: &[u16], from: usize, marks: &mut [u8])
     }
 }
 
-// A mark for each value from 1 to 4,096 that a cell of the block has.
+// A mark for each value from 1 to 4,096 that a cell of the block has. Cells name entries in the order of their homes; by the
+// marks the entries are then met from the last down.
 fn mark_cells(cells: &[u16], marks: &mut [u8])
     requires { ⌜ (length (now cells) ≡ 8192) × ((length (now marks) ≡ 4097) × ((v : ℕ) → v < 4097 → getD (now marks) v 0 ≡ 0)) ⌝ }
     ensures { λ _. ⌜ ((v : ℕ) → 0 < v → v < 4097 → eqb (getD (now (marks .exit)) v 0) 1 ≡ has-cell (now (cells .entry)) v) ⌝ }
@@ -62,7 +71,7 @@ fn mark_cells(cells: &[u16], marks: &mut [u8])
     }
 }
 
-// The guess is the place of a gathered entry of this page. Nothing is known of the guess.
+// The guess is the place of a gathered entry of this page. Nothing is known of the guess, so the entry's page is compared.
 fn is_gathered(pages: &[u64], list: &[u16], count: usize, guess: usize, page: u64) -> bool
     requires { ⌜ count ≤ length (now list) ⌝ }
     ensures { λ r. ⌜ (r ≡ true → (guess < count) × (getD (now (pages .entry)) (getD (now (list .entry)) guess 0) 0 ≡ page)) ⌝ }

@@ -1,6 +1,6 @@
 // iter_latest_frames: each page's latest entry with a frame of at most max, listed if its frame is at least min, by rising
 // page. The entries that the hash names are gathered from the last down, sorted by page, and the first of each page is taken.
-// All of it is counted before the first output cell is written.
+// All of it is counted before the first output cell is written: a list that is refused for too few of them (5) has written none.
 use list_choose::choose;
 use list_gather::gather;
 use wal_types::Header;
@@ -83,7 +83,8 @@ fn list_in(
     List::Pairs(count)
 }
 
-// With room for one block's entries.
+// With room for one block's entries. An array is cleared where it is made, and room for every block's entries is 262,144 bytes:
+// with that room alone a list of 1 or 10 entries took more than twice as long, longer than the Rust's.
 fn list_small(
     pages: &[u64],
     frames: &[u64],
@@ -113,7 +114,7 @@ fn list_small(
     )
 }
 
-// With room for every block's.
+// With room for every block's. All room is on the stack (less than 300 KB): nothing is allocated, so no call can fail for it.
 fn list_large(
     pages: &[u64],
     frames: &[u64],
