@@ -377,8 +377,10 @@ struct wal_db_file_reply wal_has_active_db_file_reader(size_t n, uint32_t mode, 
 #define WAL_LAYOUT(what, bytes) static_assert((what) == (bytes), #what " is not " #bytes)
 #elif !defined(__cplusplus) && defined(__STDC_VERSION__) && __STDC_VERSION__ >= 201112L
 #define WAL_LAYOUT(what, bytes) _Static_assert((what) == (bytes), #what " is not " #bytes)
-#else /* before C11 and C++11: no array has a negative size */
-#define WAL_LAYOUT(what, bytes) extern char wal_layout_is_another[(what) == (bytes) ? 1 : -1]
+#else /* before C11 and C++11: no array has a negative size; each has its line's name */
+#define WAL_LAYOUT_NAMED(line, what, bytes) typedef char wal_layout_##line[(what) == (bytes) ? 1 : -1]
+#define WAL_LAYOUT_ON(line, what, bytes) WAL_LAYOUT_NAMED(line, what, bytes)
+#define WAL_LAYOUT(what, bytes) WAL_LAYOUT_ON(__LINE__, what, bytes)
 #endif
 
 WAL_LAYOUT(sizeof(size_t), 8);
@@ -433,6 +435,8 @@ WAL_LAYOUT(offsetof(struct wal_db_file_reply, active), 4);
 WAL_LAYOUT(sizeof(struct wal_db_file_reply), 8);
 
 #undef WAL_LAYOUT
+#undef WAL_LAYOUT_ON
+#undef WAL_LAYOUT_NAMED
 
 #ifdef __cplusplus
 }
