@@ -7,7 +7,7 @@ use lib.Dec.{eqb, ltb}
 use Rattle.wal_types.specs.declared.Header.{Header}
 use Rattle.wal_types.specs.declared.SharedWalOwnershipMode.{SharedWalOwnershipMode}
 use Rattle.wal_types.specs.Settings.{is-fcntl}
-use Rattle.wal_types.specs.Memory.{Memory, Process, with-header}
+use Rattle.wal_types.specs.Memory.{Memory, Process, with-header, with-local-writer, with-local-checkpoint}
 use Rattle.wal_types.specs.Store.{HeaderCell, to-header, writer-owner, checkpoint-owner}
 use Rattle.wal_types.specs.Refusal.{Test, _if_, not-held, other-owner, no-owner, card}
 use Rattle.wal_types.specs.Call.{Call, Answer, refused, ok, flag, unless, after, done}
@@ -30,8 +30,8 @@ local-owner Checkpoint p = p .local-checkpoint
 
 -- the process with v in that cell
 abbrev pub with-local-owner : Lock → ℕ → Process → Process
-with-local-owner Writer v p = record { local-readers = p .local-readers; local-writer = v; local-checkpoint = p .local-checkpoint; registry = p .registry }
-with-local-owner Checkpoint v p = record { local-readers = p .local-readers; local-writer = p .local-writer; local-checkpoint = v; registry = p .registry }
+with-local-owner Writer v p = with-local-writer p v
+with-local-owner Checkpoint v p = with-local-checkpoint p v
 
 -- Acquire: refused for owner 0, and for a card byte above 2.
 abbrev pub acquire-tests : ℕ → ℕ → List Test

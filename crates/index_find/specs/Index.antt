@@ -7,7 +7,7 @@ use lib.Dec.{ltb}
 use lib.ListN.{length, getD, take, drop}
 use Rattle.wal_types.specs.declared.Header.{Header}
 use Rattle.wal_types.specs.Settings.{capacity-in-limits, max-blocks-in-limits, entries-for, cells-for}
-use Rattle.wal_types.specs.Memory.{Memory, Process}
+use Rattle.wal_types.specs.Memory.{Memory, Process, with-header, with-index}
 use Rattle.wal_types.specs.Store.{Store, to-hash, Piece, _then_}
 use Rattle.wal_types.specs.Refusal.{Test, _if_, settings, short-memory}
 use Rattle.wal_types.specs.Call.{Call, Answer, after, done}
@@ -90,16 +90,7 @@ pub record HasRoom (n pages frames hash : ℕ) : Type 0 where
 
 -- a memory with this header and index in it
 abbrev pub index-in : Memory → Header → List ℕ → List ℕ → List ℕ → Memory
-index-in z h pages frames hash =
-    record {
-      header = h;
-      pages = pages;
-      frames = frames;
-      hash = hash;
-      bitmap = z .bitmap;
-      reader-frames = z .reader-frames;
-      reader-owners = z .reader-owners;
-    }
+index-in z h pages frames hash = with-index (with-header z h) pages frames hash
 
 -- The call on any memory with this header and index in it, by any process: it answers a, leaves the header h′ and the index
 -- at pages′, frames′ and hash′, and changes nothing else.

@@ -14,8 +14,7 @@ use denote.Enum.Declared.{tagOf}
 use Rattle.wal_types.specs.declared.SharedReadMark.{SharedReadMark}
 use Rattle.wal_types.specs.declared.SharedWalOwnershipMode.{SharedWalOwnershipMode}
 use Rattle.wal_types.specs.Settings.{slots-in-limits, unused, most-holders}
-use Rattle.wal_types.specs.Memory.{Memory, Process, no-mark}
-use Rattle.wal_types.specs.Fresh.{fresh-header}
+use Rattle.wal_types.specs.Memory.{Memory, Process, no-mark, blank-memory, blank-process}
 use Rattle.wal_types.specs.Refusal.{lowest}
 use Rattle.wal_types.specs.Call.{Answer, refused, slot-taken, none, Done, after, done}
 use Rattle.reader_slots.specs.declared.slots.Slot.{Slot}
@@ -98,12 +97,6 @@ later-found NoSlot d e = e
 not-found : (c : Slot) → found-slot c ≡ false → c ≡ NoSlot
 not-found (SlotAt i) e = let z : _≡_ {A = Bool} true false = e in let y : _≡_ {A = ℕ} 0 1 = cc in absurd (omega arith)
 not-found NoSlot e = refl
-
-abbrev some-memory : Memory
-some-memory = record { header = fresh-header 0 0 0; pages = []; frames = []; hash = []; bitmap = []; reader-frames = []; reader-owners = [] }
-
-abbrev some-process : Process
-some-process = record { local-readers = []; local-writer = 0; local-checkpoint = 0; registry = [] }
 
 -- what is seen of the first n records, where there are so many
 pub seen-parts : (n : ℕ) (r : List SharedReadMark) (mark : ℕ) (seen : Seen) → seen ≡ seen-of (min n (length r)) r mark → n ≤ length r → (record-of n r mark ≡ seen .place) × ((item-at r (record-of n r mark) ≡ seen .item) × (record-of n r mark ≡ Nothing → empty-record n r ≡ seen .empty))
@@ -246,7 +239,7 @@ module _ (n : ℕ) (mode : SharedWalOwnershipMode) (owner mark : ℕ) (bytes b f
           -- the slot is one of the n
           pub taken-below : (slot : ℕ) → x ≡ Taken slot → slot < n
           taken-below slot y =
-              register-took n mode owner mark bytes (memory some-memory) (locals-in some-process l) slot owner mark (ap (λ (d : Done). d .answer) (answered (slot-taken slot owner mark) (ap (register-answer owner mark) y) some-memory some-process)) .1 .1 .below
+              register-took n mode owner mark bytes (memory blank-memory) (locals-in blank-process l) slot owner mark (ap (λ (d : Done). d .answer) (answered (slot-taken slot owner mark) (ap (register-answer owner mark) y) blank-memory blank-process)) .1 .1 .below
 
           no-slot : x ≡ Turned → (free : ℕ) → seen .empty ≡ At free → (slot : ℕ) → Means none b′ f′ o′ l′ records records slot
           unfolding PlanCall
@@ -258,7 +251,7 @@ module _ (n : ℕ) (mode : SharedWalOwnershipMode) (owner mark : ℕ) (bytes b f
           -- it is no refusal
           not-denied : (j : ℕ) → x ≡ Denied j → ⊥
           not-denied j y =
-              never-refused owner mark (chosen some-memory some-process []) j (same-answer b′ f′ o′ l′ (refused j) (answered (refused j) (ap (register-answer owner mark) y)) some-memory some-process [])
+              never-refused owner mark (chosen blank-memory blank-process []) j (same-answer b′ f′ o′ l′ (refused j) (answered (refused j) (ap (register-answer owner mark) y)) blank-memory blank-process [])
 
           pub new-none : OneOf (1 ∷ 2 ∷ []) (tagOf RegisterType.the-type x) → (free : ℕ) → seen .empty ≡ At free → (slot : ℕ) → Means none b′ f′ o′ l′ records records slot
           new-none w free ef slot = elim (declined x w) [ inl y ↦ no-slot y free ef slot | inr y ↦ absurd (not-denied (y .0) (y .1)) ]

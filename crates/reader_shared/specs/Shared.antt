@@ -8,7 +8,7 @@ use lib.ListN.{length, getD}
 use Rattle.wal_types.specs.declared.SharedReadMark.{SharedReadMark}
 use Rattle.wal_types.specs.declared.SharedWalOwnershipMode.{SharedWalOwnershipMode}
 use Rattle.wal_types.specs.Settings.{slots-in-limits, unused, most-holders}
-use Rattle.wal_types.specs.Memory.{Memory, Process, no-mark}
+use Rattle.wal_types.specs.Memory.{Memory, Process, with-local-readers, with-registry, no-mark}
 use Rattle.wal_types.specs.Refusal.{Test, _if_, settings, short-memory, slot-number, not-held, other-owner, no-owner, unused-mark, no-such-mark, registry-full, card}
 use Rattle.wal_types.specs.Call.{Call, Answer, refused, slot-taken, none, ok, unless, after, done}
 use Rattle.reader_slots.specs.declared.slots.Slot.{Slot}
@@ -120,13 +120,7 @@ share-answer (NotShared k) = refused k
 
 -- the process with these local owners and this registry
 abbrev pub registry-in : Process → List ℕ → List SharedReadMark → Process
-registry-in p l r =
-    record {
-      local-readers = l;
-      local-writer = p .local-writer;
-      local-checkpoint = p .local-checkpoint;
-      registry = r;
-    }
+registry-in p l r = with-registry (with-local-readers p l) r
 
 -- The call on any memory with the lists b, f and o in it, by any process with the local owners l and the registry r: it
 -- answers a, leaves the lists b′, f′, o′ and l′ and the registry r′, and changes nothing else.
