@@ -10,7 +10,7 @@ use Rattle.wal_types.specs.declared.SharedWalOwnershipMode.{SharedWalOwnershipM
 use Rattle.wal_types.specs.declared.SharedWalOwnershipMode.the-variants.{LinuxOfd, ProcessScopedFcntl}
 use Rattle.wal_types.specs.Settings.{words-for, unused}
 use Rattle.wal_types.specs.Memory.{Memory, Process, with-slots, with-local-readers, slot-bit, no-mark}
-use Rattle.wal_types.specs.Call.{Call, Answer, after, done}
+use Rattle.wal_types.specs.Call.{Call, Carried, Answer, after, done}
 use Rattle.wal_types.specs.Store.{to-bitmap, to-reader-frame, to-reader-owner, Piece, one, when, _then_}
 use Rattle.reader_bitmap.specs.Bit.{set-bit, clear-bit}
 
@@ -84,8 +84,11 @@ slots-in z b f o = with-slots z b f o
 abbrev pub locals-in : Process → List ℕ → Process
 locals-in p l = with-local-readers p l
 
--- The call on any memory with the lists b, f and o in it, by any process with the local owners l: it answers a, leaves the
--- lists b′, f′, o′ and l′, and changes nothing else.
+-- On any memory with the lists b, f and o in it, by any process with the local owners l, it answers a, leaves the lists b′, f′,
+-- o′ and l′, and changes nothing else.
+abbrev pub ReaderCarried : Carried → List ℕ → List ℕ → List ℕ → List ℕ → Answer → List ℕ → List ℕ → List ℕ → List ℕ → Type 0
+ReaderCarried carried b f o l a b′ f′ o′ l′ =
+    (z : Memory) (p : Process) → carried (slots-in z b f o) (locals-in p l) ≡ done a (slots-in z b′ f′ o′) (locals-in p l′)
+
 abbrev pub ReaderCall : Call → List ℕ → List ℕ → List ℕ → List ℕ → Answer → List ℕ → List ℕ → List ℕ → List ℕ → Type 0
-ReaderCall call b f o l a b′ f′ o′ l′ =
-    (z : Memory) (p : Process) → after call (slots-in z b f o) (locals-in p l) ≡ done a (slots-in z b′ f′ o′) (locals-in p l′)
+ReaderCall call = ReaderCarried (after call)
