@@ -1,79 +1,68 @@
 -- The reply of a lock call tells what the call's contract says, and the header with the owners that the call leaves is what it
 -- leaves. Assumes nothing.
-use mathlib.Core.Path.{_≡_, refl, ap, subst}
-use mathlib.Core.Bool.{Bool, true, false, _&&_, cond}
-use mathlib.Core.List.{[], _∷_}
+use mathlib.Core.Path.{_≡_, refl, _∙_, ap, subst}
 use Prim.Native.Nat.{ℕ}
-use lib.Dec.{eqb}
 use Rattle.wal_types.specs.declared.Header.{Header}
 use Rattle.wal_types.specs.declared.SharedWalOwnershipMode.{SharedWalOwnershipMode}
-use Rattle.wal_types.specs.Memory.{Memory, Process, with-header}
-use Rattle.wal_types.specs.Store.{HeaderCell, to-header, frame-index-blocks, frame-index-len, frame-index-overflowed, max-frame, nbackfills-cell, transaction-count, visibility-generation, checkpoint-seq, checkpoint-epoch, checksum-1, checksum-2, writer-owner, checkpoint-owner}
-use Rattle.wal_types.specs.Call.{Call, Outcome, Answer, refused, flag}
+use Rattle.wal_types.specs.Memory.{Memory, Process, with-header, header-with, writer-owner, checkpoint-owner, Store, to-header, put}
+use Rattle.wal_types.specs.Call.{Call, Answer, refused}
+use Rattle.wal_types.proofs.Every.{EveryOfCall, by-every}
 use Rattle.header.specs.declared.locks.Lock.{Lock}
 use Rattle.header.specs.declared.locks.Lock.the-variants.{Writer, Checkpoint}
 use Rattle.header.specs.declared.locks.Acquire.{Acquire}
 use Rattle.header.specs.declared.locks.Acquire.the-variants.{Taken, Busy, Refused}
 use Rattle.header.specs.declared.locks.Release.{Release}
 use Rattle.header.specs.declared.locks.Release.the-variants.{Released, Refused as NotReleased}
-use Rattle.header.specs.Locks.{owner-cell, try-acquire, acquire-tests, acquires, release, release-tests, releases, local-owner, with-local-owner, acquire-answer, acquire-header, acquire-local, release-answer, release-header, release-local, LockCall}
+use Rattle.header.specs.Locks.{owner-cell, try-acquire, release, with-local-owner, acquire-answer, acquire-header, acquire-local, release-answer, release-header, release-local, LockCall}
+use Rattle.header.proofs.LockStores.{acquire-stores as acquire-stores-to, release-stores as release-stores-to}
 use Rattle.c_header_replies.specs.declared.lock_reply.LockReply.{LockReply}
 use Rattle.c_numbers.specs.declared.Mode.{Mode}
 use Rattle.c_numbers.specs.declared.Mode.the-variants.{Given, Unknown}
 use Rattle.c_numbers.specs.Reply.{refusal-number, answer-number}
 use Rattle.c_header_replies.specs.LockReply.{acquire-owners, release-owners, with-owners, LockReplied}
 use Rattle.c_numbers.specs.Mode.{with-mode}
-use Rattle.c_numbers.proofs.Touched.{taken-from, AllInside, outside-stays, all-of-unless}
 
--- the header's cells that a lock call stores to
-abbrev is-owner : HeaderCell → Bool
-is-owner frame-index-blocks = false
-is-owner frame-index-len = false
-is-owner frame-index-overflowed = false
-is-owner max-frame = false
-is-owner nbackfills-cell = false
-is-owner transaction-count = false
-is-owner visibility-generation = false
-is-owner checkpoint-seq = false
-is-owner checkpoint-epoch = false
-is-owner checksum-1 = false
-is-owner checksum-2 = false
-is-owner writer-owner = true
-is-owner checkpoint-owner = true
+-- a store to a lock's owner cell
+pub data ToOwner : Store → Type 0 where
+  to-owner : (lock : Lock) (v : ℕ) → ToOwner (to-header (owner-cell lock) v)
 
 -- a call that stores to these only
 abbrev OwnersOnly : Call → Type 0
-OwnersOnly call = (m : Memory) (p : Process) → AllInside is-owner (call m p .stores)
-
-stores-to : (lock : Lock) (v : ℕ) → AllInside is-owner (to-header (owner-cell lock) v ∷ [])
-stores-to Writer v = (refl, tt)
-stores-to Checkpoint v = (refl, tt)
-
-acquires-stores : (lock : Lock) (owner : ℕ) (p : Process) (free : Bool)
-    → AllInside is-owner (cond {A = Outcome} free (record { answer = flag true; stores = to-header (owner-cell lock) owner ∷ []; process = with-local-owner lock owner p }) (record { answer = flag false; stores = []; process = p }) .stores)
-acquires-stores lock owner p true = stores-to lock owner
-acquires-stores lock owner p false = tt
+OwnersOnly = EveryOfCall ToOwner
 
 pub acquire-stores : (lock : Lock) (owner byte : ℕ) → OwnersOnly (try-acquire lock owner byte)
-unfolding try-acquire
-acquire-stores lock owner byte m p = all-of-unless is-owner (λ m p. acquire-tests owner byte) (acquires lock owner byte) m p (acquires-stores lock owner p (eqb (local-owner lock p) 0 && eqb byte 1))
-
-release-stores : (lock : Lock) (mode : SharedWalOwnershipMode) (owner : ℕ) → OwnersOnly (release lock mode owner)
-unfolding release
-release-stores lock mode owner m p = all-of-unless is-owner (λ m p. release-tests mode (local-owner lock p) owner) (releases lock) m p (stores-to lock 0)
+acquire-stores lock = acquire-stores-to ToOwner lock (to-owner lock)
 
 -- a release whose mode is a number
 pub moded-stores : (lock : Lock) (mode : Mode) (owner : ℕ) → OwnersOnly (with-mode mode (λ given. release lock given owner))
-moded-stores lock (Given mode) owner = release-stores lock mode owner
+moded-stores lock (Given mode) owner = release-stores-to ToOwner lock (to-owner lock) mode owner
 moded-stores lock Unknown owner = λ m p. tt
 
+-- the header h with g's owners
+abbrev owners-from : Header → Header → Header
+owners-from g h = header-with writer-owner (g .«writer_owner») (header-with checkpoint-owner (g .«checkpoint_owner») h)
+
+-- what such stores leave of the header is the old one with the owners of the new one
+abbrev OwnersMoved : Memory → Memory → Type 0
+OwnersMoved m m′ = owners-from (m′ .header) (m .header) ≡ m′ .header
+
+moved-twice : (m m′ m″ : Memory) → OwnersMoved m m′ → OwnersMoved m′ m″ → OwnersMoved m m″
+moved-twice m m′ m″ a b = ap (owners-from (m″ .header)) a ∙ b
+
+moved-by-one : (s : Store) (m : Memory) → ToOwner s → OwnersMoved m (put s m)
+moved-by-one s m x = elim x [ | to-owner lock v ↦ by-lock lock v ]
+  where
+    by-lock : (lock : Lock) (v : ℕ) → OwnersMoved m (put (to-header (owner-cell lock) v) m)
+    by-lock Writer v = refl
+    by-lock Checkpoint v = refl
+
 module _ (lock : Lock) (call : Call) (only : OwnersOnly call) (h : Header) (o : ℕ) where
-  told : (a : Answer) (g : Header) (o′ : ℕ) → LockCall lock call h o a g o′ → (r : LockReply) → r ≡ record { refusal = refusal-number a; answer = answer-number a; «local_owner» = o′ } → LockReplied lock call h o (taken-from is-owner g h) r
+  told : (a : Answer) (g : Header) (o′ : ℕ) → LockCall lock call h o a g o′ → (r : LockReply) → r ≡ record { refusal = refusal-number a; answer = answer-number a; «local_owner» = o′ } → LockReplied lock call h o (owners-from g h) r
   told a g o′ e r i z p =
       let m = with-header z h in
       let q = with-local-owner lock o p in
-      let stays = outside-stays is-owner (λ h. refl) (call m q .stores) (only m q) m in
-      let left = subst (λ x. taken-from is-owner x h ≡ x) (ap (λ d. d .memory .header) (e z p)) stays in
+      let moved = by-every ToOwner OwnersMoved (λ m. refl) moved-twice moved-by-one (call m q .stores) m (only m q) in
+      let left = subst (λ x. owners-from x h ≡ x) (ap (λ d. d .memory .header) (e z p)) moved in
       rw (left, e z p, i) (record { refusal-told = refl; answer-told = refl; memory-left = refl; process-left = refl })
 
   pub acquire-told : (a : Acquire) → LockCall lock call h o (acquire-answer a) (acquire-header h a) (acquire-local o a) → LockReplied lock call h o (with-owners (acquire-owners a h o) h .header) (acquire-owners a h o .reply)

@@ -1,13 +1,14 @@
 -- A call that stores, of the header's cells, to some only leaves the others as they were. Assumes nothing.
 use mathlib.Core.Path.{_≡_, refl, sym, _∙_}
-use mathlib.Core.Bool.{Bool, true, false, cond}
-use mathlib.Core.List.{List, [], _∷_, _++_}
-use Prim.Native.Nat.{ℕ, zero, suc}
+use mathlib.Core.Bool.{Bool, true, cond}
+use mathlib.Core.List.{List, [], _∷_}
+use Prim.Native.Nat.{ℕ}
 use Rattle.wal_types.specs.declared.Header.{Header}
-use Rattle.wal_types.specs.Memory.{Memory, Process}
-use Rattle.wal_types.specs.Store.{HeaderCell, frame-index-blocks, frame-index-len, frame-index-overflowed, max-frame, nbackfills-cell, transaction-count, visibility-generation, checkpoint-seq, checkpoint-epoch, checksum-1, checksum-2, writer-owner, checkpoint-owner, Store, to-header, to-page, to-frame, to-hash, to-bitmap, to-reader-frame, to-reader-owner, put, apply, Piece, when, _then_}
-use Rattle.wal_types.specs.Refusal.{Test, lowest}
-use Rattle.wal_types.specs.Call.{Call, Outcome, accepted-or, unless}
+use Rattle.wal_types.specs.Memory.{Memory, Process, to-header, to-index, to-slots, header-with}
+use Rattle.wal_types.specs.Store.{HeaderCell, frame-index-blocks, frame-index-len, frame-index-overflowed, max-frame, nbackfills-cell, transaction-count, visibility-generation, checkpoint-seq, checkpoint-epoch, checksum-1, checksum-2, writer-owner, checkpoint-owner, Store, put, apply, Piece, when, _then_}
+use Rattle.wal_types.specs.Refusal.{Test}
+use Rattle.wal_types.specs.Call.{Call, Outcome, unless}
+use Rattle.wal_types.proofs.Every.{Every, EveryOf, every-then, every-when, every-cond-of, every-unless-here}
 
 module _ (inside : HeaderCell → Bool) where
   -- the header h with g's cells inside
@@ -29,40 +30,34 @@ module _ (inside : HeaderCell → Bool) where
         «checkpoint_owner» = cond (inside checkpoint-owner) (g .«checkpoint_owner») (h .«checkpoint_owner»);
       }
 
-  -- every store to the header is to a cell inside
+  -- a store that is to no other cell of the header
   abbrev Inside : Store → Type 0
   Inside (to-header c v) = inside c ≡ true
-  Inside (to-page i v) = Unit {0}
-  Inside (to-frame i v) = Unit {0}
-  Inside (to-hash i v) = Unit {0}
-  Inside (to-bitmap i v) = Unit {0}
-  Inside (to-reader-frame i v) = Unit {0}
-  Inside (to-reader-owner i v) = Unit {0}
+  Inside (to-index part i v) = Unit {0}
+  Inside (to-slots part i v) = Unit {0}
 
   abbrev pub AllInside : List Store → Type 0
-  AllInside [] = Unit {0}
-  AllInside (s ∷ rest) = Inside s × AllInside rest
+  AllInside = Every Inside
+
+  cell-inside : (c : HeaderCell) (v : ℕ) → inside c ≡ true → (g h : Header) → taken-from g (header-with c v h) ≡ taken-from g h
+  cell-inside frame-index-blocks v e g h = rw e
+  cell-inside frame-index-len v e g h = rw e
+  cell-inside frame-index-overflowed v e g h = rw e
+  cell-inside max-frame v e g h = rw e
+  cell-inside nbackfills-cell v e g h = rw e
+  cell-inside transaction-count v e g h = rw e
+  cell-inside visibility-generation v e g h = rw e
+  cell-inside checkpoint-seq v e g h = rw e
+  cell-inside checkpoint-epoch v e g h = rw e
+  cell-inside checksum-1 v e g h = rw e
+  cell-inside checksum-2 v e g h = rw e
+  cell-inside writer-owner v e g h = rw e
+  cell-inside checkpoint-owner v e g h = rw e
 
   put-inside : (s : Store) → Inside s → (g : Header) (m : Memory) → taken-from g (put s m .header) ≡ taken-from g (m .header)
-  put-inside (to-header frame-index-blocks v) e g m = rw e
-  put-inside (to-header frame-index-len v) e g m = rw e
-  put-inside (to-header frame-index-overflowed v) e g m = rw e
-  put-inside (to-header max-frame v) e g m = rw e
-  put-inside (to-header nbackfills-cell v) e g m = rw e
-  put-inside (to-header transaction-count v) e g m = rw e
-  put-inside (to-header visibility-generation v) e g m = rw e
-  put-inside (to-header checkpoint-seq v) e g m = rw e
-  put-inside (to-header checkpoint-epoch v) e g m = rw e
-  put-inside (to-header checksum-1 v) e g m = rw e
-  put-inside (to-header checksum-2 v) e g m = rw e
-  put-inside (to-header writer-owner v) e g m = rw e
-  put-inside (to-header checkpoint-owner v) e g m = rw e
-  put-inside (to-page i v) e g m = refl
-  put-inside (to-frame i v) e g m = refl
-  put-inside (to-hash i v) e g m = refl
-  put-inside (to-bitmap i v) e g m = refl
-  put-inside (to-reader-frame i v) e g m = refl
-  put-inside (to-reader-owner i v) e g m = refl
+  put-inside (to-header c v) e g m = cell-inside c v e g (m .header)
+  put-inside (to-index part i v) e g m = refl
+  put-inside (to-slots part i v) e g m = refl
 
   -- what such stores leave of the header is the old one with the cells inside taken from the new one
   module _ (itself : (h : Header) → taken-from h h ≡ h) where
@@ -70,26 +65,15 @@ module _ (inside : HeaderCell → Bool) where
     outside-stays [] all m = itself (m .header)
     outside-stays (s ∷ rest) all m = sym (put-inside s (all .0) (apply rest (put s m) .header) m) ∙ outside-stays rest (all .1) (put s m)
 
-  -- pieces of such stores
-  pub all-of-both : (ss ts : List Store) → AllInside ss → AllInside ts → AllInside (ss ++ ts)
-  all-of-both [] ts x y = y
-  all-of-both (s ∷ ss) ts x y = (x .0, all-of-both ss ts (x .1) y)
+  -- pieces and calls of such stores
+  pub all-of-then : (p q : Piece) → EveryOf Inside p → EveryOf Inside q → EveryOf Inside (p then q)
+  all-of-then = every-then Inside
 
-  pub all-of-then : (p q : Piece) → ((m : Memory) → AllInside (p m)) → ((m : Memory) → AllInside (q m)) → (m : Memory) → AllInside ((p then q) m)
-  all-of-then p q x y m = all-of-both (p m) (q (apply (p m) m)) (x m) (y (apply (p m) m))
+  pub all-of-when : (b : Bool) (p : Piece) → EveryOf Inside p → EveryOf Inside (when b p)
+  all-of-when = every-when Inside
 
-  pub all-of-when : (b : Bool) (p : Piece) → ((m : Memory) → AllInside (p m)) → (m : Memory) → AllInside (when b p m)
-  all-of-when true p x m = x m
-  all-of-when false p x m = tt
-
-  -- calls of such pieces
   pub all-of-cond : (b : Bool) (f g : Process → Outcome) (p : Process) → AllInside (f p .stores) → AllInside (g p .stores) → AllInside (cond b f g p .stores)
-  all-of-cond true f g p x y = x
-  all-of-cond false f g p x y = y
-
-  all-of-accepted : (n : ℕ) (p : Process) (o : Outcome) → AllInside (o .stores) → AllInside (accepted-or n p o .stores)
-  all-of-accepted zero p o x = x
-  all-of-accepted (suc n) p o x = tt
+  all-of-cond = every-cond-of Inside
 
   pub all-of-unless : (tests : Memory → Process → List Test) (call : Call) (m : Memory) (p : Process) → AllInside (call m p .stores) → AllInside (unless tests call m p .stores)
-  all-of-unless tests call m p x = all-of-accepted (lowest (tests m p)) p (call m p) x
+  all-of-unless tests call m p x = every-unless-here Inside tests call m p x

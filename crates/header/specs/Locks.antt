@@ -7,10 +7,10 @@ use lib.Dec.{eqb, ltb}
 use Rattle.wal_types.specs.declared.Header.{Header}
 use Rattle.wal_types.specs.declared.SharedWalOwnershipMode.{SharedWalOwnershipMode}
 use Rattle.wal_types.specs.Settings.{is-fcntl}
-use Rattle.wal_types.specs.Memory.{Memory, Process, with-header}
+use Rattle.wal_types.specs.Memory.{Memory, Process, with-header, with-local-writer, with-local-checkpoint}
 use Rattle.wal_types.specs.Store.{HeaderCell, to-header, writer-owner, checkpoint-owner}
 use Rattle.wal_types.specs.Refusal.{Test, _if_, not-held, other-owner, no-owner, card}
-use Rattle.wal_types.specs.Call.{Call, Answer, refused, ok, flag, unless, after, done}
+use Rattle.wal_types.specs.Call.{Call, Carried, Answer, refused, ok, flag, unless, after, done}
 use Rattle.header.specs.declared.locks.Lock.{Lock}
 use Rattle.header.specs.declared.locks.Lock.the-variants.{Writer, Checkpoint}
 use Rattle.header.specs.declared.locks.Acquire.{Acquire}
@@ -30,8 +30,8 @@ local-owner Checkpoint p = p .local-checkpoint
 
 -- the process with v in that cell
 abbrev pub with-local-owner : Lock → ℕ → Process → Process
-with-local-owner Writer v p = record { local-readers = p .local-readers; local-writer = v; local-checkpoint = p .local-checkpoint; registry = p .registry }
-with-local-owner Checkpoint v p = record { local-readers = p .local-readers; local-writer = p .local-writer; local-checkpoint = v; registry = p .registry }
+with-local-owner Writer v p = with-local-writer p v
+with-local-owner Checkpoint v p = with-local-checkpoint p v
 
 -- Acquire: refused for owner 0, and for a card byte above 2.
 abbrev pub acquire-tests : ℕ → ℕ → List Test
@@ -90,8 +90,11 @@ abbrev pub release-local : ℕ → Release → ℕ
 release-local before (Released h o) = o .0
 release-local before (NotReleased n) = before
 
--- The call on any memory with the header h in it, by any process with the local owner o: it answers a, leaves the header
--- h′ and the local owner o′, and changes nothing else.
+-- On any memory with the header h in it, by any process with the local owner o, it answers a, leaves the header h′ and the
+-- local owner o′, and changes nothing else.
+abbrev pub LockCarried : Lock → Carried → Header → ℕ → Answer → Header → ℕ → Type 0
+LockCarried lock carried h o a h′ o′ =
+    (z : Memory) (p : Process) → carried (with-header z h) (with-local-owner lock o p) ≡ done a (with-header z h′) (with-local-owner lock o′ p)
+
 abbrev pub LockCall : Lock → Call → Header → ℕ → Answer → Header → ℕ → Type 0
-LockCall lock call h o a h′ o′ =
-    (z : Memory) (p : Process) → after call (with-header z h) (with-local-owner lock o p) ≡ done a (with-header z h′) (with-local-owner lock o′ p)
+LockCall lock call = LockCarried lock (after call)

@@ -5,7 +5,7 @@ use lib.Dec.{leb}
 use Rattle.wal_types.specs.declared.Header.{Header}
 use Rattle.wal_types.specs.Memory.{Memory, Process, with-header}
 use Rattle.wal_types.specs.Store.{to-header, max-frame, nbackfills-cell, transaction-count, visibility-generation, checkpoint-seq, checkpoint-epoch, checksum-1, checksum-2, Piece, one, when, _then_}
-use Rattle.wal_types.specs.Call.{Call, Answer, ok, value, does, after, done}
+use Rattle.wal_types.specs.Call.{Call, Carried, Answer, ok, value, does, after, done}
 
 -- The next number of a counter of some bits: the greatest goes to 0.
 abbrev pub next : ℕ → ℕ → ℕ
@@ -38,6 +38,9 @@ unfoldable pub bump-checkpoint-epoch : Call
 bump-checkpoint-epoch m =
     does (value (m .header .«checkpoint_epoch»)) (one (to-header checkpoint-epoch (next 32 (m .header .«checkpoint_epoch»)))) m
 
--- The call on any memory with the header h in it, by any process: it answers a, leaves the header h′, and changes nothing else.
+-- On any memory with the header h in it, by any process, it answers a, leaves the header h′, and changes nothing else.
+abbrev pub HeaderCarried : Carried → Header → Answer → Header → Type 0
+HeaderCarried carried h a h′ = (z : Memory) (p : Process) → carried (with-header z h) p ≡ done a (with-header z h′) p
+
 abbrev pub HeaderCall : Call → Header → Answer → Header → Type 0
-HeaderCall call h a h′ = (z : Memory) (p : Process) → after call (with-header z h) p ≡ done a (with-header z h′) p
+HeaderCall call = HeaderCarried (after call)

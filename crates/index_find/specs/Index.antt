@@ -7,10 +7,10 @@ use lib.Dec.{ltb}
 use lib.ListN.{length, getD, take, drop}
 use Rattle.wal_types.specs.declared.Header.{Header}
 use Rattle.wal_types.specs.Settings.{capacity-in-limits, max-blocks-in-limits, entries-for, cells-for}
-use Rattle.wal_types.specs.Memory.{Memory, Process}
+use Rattle.wal_types.specs.Memory.{Memory, Process, with-header, with-index}
 use Rattle.wal_types.specs.Store.{Store, to-hash, Piece, _then_}
 use Rattle.wal_types.specs.Refusal.{Test, _if_, settings, short-memory}
-use Rattle.wal_types.specs.Call.{Call, Answer, after, done}
+use Rattle.wal_types.specs.Call.{Call, Carried, Answer, after, done}
 use Rattle.index_hash.specs.declared.Cell.{Cell}
 use Rattle.index_hash.specs.declared.Cell.the-variants.{Empty, Full}
 use Rattle.index_hash.specs.Block.{empty-cell}
@@ -90,19 +90,13 @@ pub record HasRoom (n pages frames hash : ℕ) : Type 0 where
 
 -- a memory with this header and index in it
 abbrev pub index-in : Memory → Header → List ℕ → List ℕ → List ℕ → Memory
-index-in z h pages frames hash =
-    record {
-      header = h;
-      pages = pages;
-      frames = frames;
-      hash = hash;
-      bitmap = z .bitmap;
-      reader-frames = z .reader-frames;
-      reader-owners = z .reader-owners;
-    }
+index-in z h pages frames hash = with-index (with-header z h) pages frames hash
 
--- The call on any memory with this header and index in it, by any process: it answers a, leaves the header h′ and the index
--- at pages′, frames′ and hash′, and changes nothing else.
+-- On any memory with this header and index in it, by any process, it answers a, leaves the header h′ and the index at pages′,
+-- frames′ and hash′, and changes nothing else.
+abbrev pub IndexCarried : Carried → Header → List ℕ → List ℕ → List ℕ → Answer → Header → List ℕ → List ℕ → List ℕ → Type 0
+IndexCarried carried h pages frames hash a h′ pages′ frames′ hash′ =
+    (z : Memory) (p : Process) → carried (index-in z h pages frames hash) p ≡ done a (index-in z h′ pages′ frames′ hash′) p
+
 abbrev pub IndexCall : Call → Header → List ℕ → List ℕ → List ℕ → Answer → Header → List ℕ → List ℕ → List ℕ → Type 0
-IndexCall call h pages frames hash a h′ pages′ frames′ hash′ =
-    (z : Memory) (p : Process) → after call (index-in z h pages frames hash) p ≡ done a (index-in z h′ pages′ frames′ hash′) p
+IndexCall call = IndexCarried (after call)

@@ -4,3 +4,4 @@ pub mod Recorded
 pub mod Placed
 pub mod Planned
 pub mod RolledBack
+pub mod Stored

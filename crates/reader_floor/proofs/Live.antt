@@ -10,8 +10,7 @@ use lib.ListN.{length, getD, set}
 use lib.Seq.{getD-set-other}
 use Rattle.wal_types.specs.declared.SharedWalOwnershipMode.{SharedWalOwnershipMode}
 use Rattle.wal_types.specs.Settings.{unused}
-use Rattle.wal_types.specs.Memory.{Memory, Process}
-use Rattle.wal_types.specs.Fresh.{fresh-header}
+use Rattle.wal_types.specs.Memory.{Memory, Process, blank-memory, blank-process}
 use Rattle.reader_slots.specs.declared.slots.Slot.{Slot}
 use Rattle.reader_probe.specs.declared.live.Floor.{Floor}
 use Rattle.reader_probe.specs.declared.live.Floor.the-variants.{NoMark}
@@ -33,32 +32,25 @@ pub record SameFrom (i : ℕ) (f o f₀ o₀ : List ℕ) : Type 0 where
   pub frames-same : (j d : ℕ) → i ≤ j → getD f j d ≡ getD f₀ j d
   pub owners-same : (j d : ℕ) → i ≤ j → getD o j d ≡ getD o₀ j d
 
--- some memory and some process, to read a list off a statement on all of them
-blank : Memory
-blank = record { header = fresh-header 0 0 0; pages = []; frames = []; hash = []; bitmap = []; reader-frames = []; reader-owners = [] }
-
-nobody : Process
-nobody = record { local-readers = []; local-writer = 0; local-checkpoint = 0; registry = [] }
-
--- a pass that may empty slot i leaves the later ones
+-- a pass that may empty slot i leaves the later ones (what is said of every memory is read off at the blank one)
 module _ (mode : SharedWalOwnershipMode) (i : ℕ) (b f o b′ f′ o′ : List ℕ) where
-  later-frame : (t : Bool) → slots-in blank b′ f′ o′ ≡ emptied-if mode t i (slots-in blank b f o) → (j d : ℕ) → i + 1 ≤ j → getD f′ j d ≡ getD f j d
+  later-frame : (t : Bool) → slots-in blank-memory b′ f′ o′ ≡ emptied-if mode t i (slots-in blank-memory b f o) → (j d : ℕ) → i + 1 ≤ j → getD f′ j d ≡ getD f j d
   later-frame true e j d a =
-      let q : f′ ≡ set f i unused = ap (λ (m : Memory). m .reader-frames) (e ∙ emptied-slot mode blank b f o i) in
+      let q : f′ ≡ set f i unused = ap (λ (m : Memory). m .reader-frames) (e ∙ emptied-slot mode blank-memory b f o i) in
       rw q (getD-set-other f i j unused d (λ s. omega arith))
   later-frame false e j d a = ap (λ (m : Memory). getD (m .reader-frames) j d) e
 
-  later-owner : (t : Bool) → slots-in blank b′ f′ o′ ≡ emptied-if mode t i (slots-in blank b f o) → (j d : ℕ) → i + 1 ≤ j → getD o′ j d ≡ getD o j d
+  later-owner : (t : Bool) → slots-in blank-memory b′ f′ o′ ≡ emptied-if mode t i (slots-in blank-memory b f o) → (j d : ℕ) → i + 1 ≤ j → getD o′ j d ≡ getD o j d
   later-owner true e j d a =
-      let q : o′ ≡ set o i 0 = ap (λ (m : Memory). m .reader-owners) (e ∙ emptied-slot mode blank b f o i) in
+      let q : o′ ≡ set o i 0 = ap (λ (m : Memory). m .reader-owners) (e ∙ emptied-slot mode blank-memory b f o i) in
       rw q (getD-set-other o i j 0 d (λ s. omega arith))
   later-owner false e j d a = ap (λ (m : Memory). getD (m .reader-owners) j d) e
 
   same-next : (bytes l f₀ o₀ : List ℕ) → SameFrom i f o f₀ o₀ → SlotsBecome (λ m p. emptied-if mode (dead mode bytes p m i) i m) b f o l b′ f′ o′ → SameFrom (i + 1) f′ o′ f₀ o₀
   same-next bytes l f₀ o₀ s e =
       record {
-        frames-same = λ j d a. later-frame (dead mode bytes (locals-in nobody l) (slots-in blank b f o) i) (e blank nobody) j d a ∙ s .frames-same j d (omega arith);
-        owners-same = λ j d a. later-owner (dead mode bytes (locals-in nobody l) (slots-in blank b f o) i) (e blank nobody) j d a ∙ s .owners-same j d (omega arith);
+        frames-same = λ j d a. later-frame (dead mode bytes (locals-in blank-process l) (slots-in blank-memory b f o) i) (e blank-memory blank-process) j d a ∙ s .frames-same j d (omega arith);
+        owners-same = λ j d a. later-owner (dead mode bytes (locals-in blank-process l) (slots-in blank-memory b f o) i) (e blank-memory blank-process) j d a ∙ s .owners-same j d (omega arith);
       }
 
 -- one slot's answer, by the lists as they were

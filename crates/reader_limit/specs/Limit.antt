@@ -4,7 +4,7 @@ use mathlib.Core.List.{List}
 use Prim.Native.Nat.{ℕ, min}
 use Rattle.wal_types.specs.declared.SharedWalOwnershipMode.{SharedWalOwnershipMode}
 use Rattle.wal_types.specs.Memory.{Memory, Process}
-use Rattle.wal_types.specs.Call.{Call, Answer, refused, value, does, unless, after, done}
+use Rattle.wal_types.specs.Call.{Call, Carried, Answer, refused, value, does, unless, after, done}
 use Rattle.reader_probe.specs.declared.live.Floor.{Floor}
 use Rattle.reader_probe.specs.declared.live.Floor.the-variants.{Mark, NoMark}
 use Rattle.reader_floor.specs.declared.floor.MinFrame.{MinFrame}
@@ -36,8 +36,11 @@ limit-told published (Least mark) = value (min published mark)
 limit-told published NoFloor = value published
 limit-told published (NotTold k) = refused k
 
--- The call on any memory whose published frame is the number given, with the lists b, f and o in it, by any process with the
--- local owners l: it answers a, leaves the lists b′, f′ and o′, and changes nothing else.
+-- On any memory whose published frame is the number given, with the lists b, f and o in it, by any process with the local
+-- owners l, it answers a, leaves the lists b′, f′ and o′, and changes nothing else.
+abbrev pub LimitCarried : Carried → ℕ → List ℕ → List ℕ → List ℕ → List ℕ → Answer → List ℕ → List ℕ → List ℕ → Type 0
+LimitCarried carried published b f o l a b′ f′ o′ =
+    (z : Memory) (p : Process) → z .header .«max_frame» ≡ published → carried (slots-in z b f o) (locals-in p l) ≡ done a (slots-in z b′ f′ o′) (locals-in p l)
+
 abbrev pub LimitCall : Call → ℕ → List ℕ → List ℕ → List ℕ → List ℕ → Answer → List ℕ → List ℕ → List ℕ → Type 0
-LimitCall call published b f o l a b′ f′ o′ =
-    (z : Memory) (p : Process) → z .header .«max_frame» ≡ published → after call (slots-in z b f o) (locals-in p l) ≡ done a (slots-in z b′ f′ o′) (locals-in p l)
+LimitCall call = LimitCarried (after call)

@@ -5,7 +5,7 @@ use Prim.Native.Nat.{ℕ, zero, suc, _+_, _-_}
 use lib.Dec.{eqb}
 use lib.ListN.{getD, set}
 use Rattle.wal_types.specs.declared.SharedReadMark.{SharedReadMark}
-use Rattle.wal_types.specs.Memory.{Process, no-mark}
+use Rattle.wal_types.specs.Memory.{Process, with-registry, no-mark}
 use Rattle.reader_marks.specs.declared.Record.{Record}
 use Rattle.reader_marks.specs.declared.Record.the-variants.{At, Nothing}
 
@@ -37,10 +37,4 @@ one-less r = record { mark = r .mark; slot = r .slot; owner = r .owner; holders 
 
 -- the process with another record in place i
 abbrev pub with-record : Process → ℕ → SharedReadMark → Process
-with-record p i r =
-    record {
-      local-readers = p .local-readers;
-      local-writer = p .local-writer;
-      local-checkpoint = p .local-checkpoint;
-      registry = set (p .registry) i r;
-    }
+with-record p i r = with-registry p (set (p .registry) i r)

@@ -10,7 +10,7 @@ use Rattle.wal_types.specs.Settings.{slots-in-limits, unused, is-fcntl}
 use Rattle.wal_types.specs.Memory.{Memory, Process}
 use Rattle.wal_types.specs.Store.{to-reader-frame, one}
 use Rattle.wal_types.specs.Refusal.{Test, _if_, settings, short-memory, slot-number, not-held, other-owner, no-owner, unused-mark, shared-slot}
-use Rattle.wal_types.specs.Call.{Call, Answer, refused, slot-taken, ok, does, unless, after, done}
+use Rattle.wal_types.specs.Call.{Call, Carried, Answer, refused, slot-taken, ok, does, unless, after, done}
 use Rattle.reader_moves.specs.declared.update.Update.{Update}
 use Rattle.reader_moves.specs.declared.update.Update.the-variants.{Moved, Refused as NotMoved}
 use Rattle.reader_moves.specs.declared.update.Release.{Release}
@@ -71,14 +71,20 @@ release-answer (NotReleased k) = refused k
 
 -- A call by any process whose registry has so many records, with the slot in it or not. A move is on any memory with the
 -- slot frames f and the slot owners o in it: it answers a, leaves the slot frames f′, and changes nothing else.
-abbrev pub MoveCall : ℕ → ℕ → Bool → ℕ → Call → List ℕ → List ℕ → Answer → List ℕ → Type 0
-MoveCall n slot shared records call f o a f′ =
+abbrev pub MoveCarried : ℕ → ℕ → Bool → ℕ → Carried → List ℕ → List ℕ → Answer → List ℕ → Type 0
+MoveCarried n slot shared records carried f o a f′ =
     (z : Memory) (p : Process) → in-registry n (p .registry) slot ≡ shared → length (p .registry) ≡ records →
-    after call (slots-in z (z .bitmap) f o) p ≡ done a (slots-in z (z .bitmap) f′ o) p
+    carried (slots-in z (z .bitmap) f o) p ≡ done a (slots-in z (z .bitmap) f′ o) p
+
+abbrev pub MoveCall : ℕ → ℕ → Bool → ℕ → Call → List ℕ → List ℕ → Answer → List ℕ → Type 0
+MoveCall n slot shared records call = MoveCarried n slot shared records (after call)
 
 -- A release is on any memory with the lists b, f and o in it, by a process with the local owners l: it answers a, leaves
 -- the lists b′, f′, o′ and l′, and changes nothing else.
-abbrev pub ReleaseCall : ℕ → ℕ → Bool → ℕ → Call → List ℕ → List ℕ → List ℕ → List ℕ → Answer → List ℕ → List ℕ → List ℕ → List ℕ → Type 0
-ReleaseCall n slot shared records call b f o l a b′ f′ o′ l′ =
+abbrev pub ReleaseCarried : ℕ → ℕ → Bool → ℕ → Carried → List ℕ → List ℕ → List ℕ → List ℕ → Answer → List ℕ → List ℕ → List ℕ → List ℕ → Type 0
+ReleaseCarried n slot shared records carried b f o l a b′ f′ o′ l′ =
     (z : Memory) (p : Process) → in-registry n (p .registry) slot ≡ shared → length (p .registry) ≡ records →
-    after call (slots-in z b f o) (locals-in p l) ≡ done a (slots-in z b′ f′ o′) (locals-in p l′)
+    carried (slots-in z b f o) (locals-in p l) ≡ done a (slots-in z b′ f′ o′) (locals-in p l′)
+
+abbrev pub ReleaseCall : ℕ → ℕ → Bool → ℕ → Call → List ℕ → List ℕ → List ℕ → List ℕ → Answer → List ℕ → List ℕ → List ℕ → List ℕ → Type 0
+ReleaseCall n slot shared records call = ReleaseCarried n slot shared records (after call)

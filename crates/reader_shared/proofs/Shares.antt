@@ -14,8 +14,7 @@ use denote.Enum.Declared.{tagOf}
 use Rattle.wal_types.specs.declared.SharedReadMark.{SharedReadMark}
 use Rattle.wal_types.specs.declared.SharedWalOwnershipMode.{SharedWalOwnershipMode}
 use Rattle.wal_types.specs.Settings.{slots-in-limits, unused, most-holders}
-use Rattle.wal_types.specs.Memory.{Memory, Process, no-mark}
-use Rattle.wal_types.specs.Fresh.{fresh-header}
+use Rattle.wal_types.specs.Memory.{Memory, Process, no-mark, blank-memory, blank-process}
 use Rattle.wal_types.specs.Refusal.{lowest}
 use Rattle.wal_types.specs.Call.{Answer, refused, slot-taken, none, Done, after, done}
 use Rattle.reader_slots.specs.declared.slots.Slot.{Slot}
@@ -39,7 +38,7 @@ use Rattle.reader_marks.specs.Registry.{record-of, empty-record}
 use Rattle.reader_marks.specs.InnerChange.{one-more-below, first-held, retained, published}
 use Rattle.reader_shared.specs.Shared.{no-record, no-room, share-tests, new-record, shares, register-reader-for-snapshot, share-answer, registry-in}
 use Rattle.reader_marks.specs.InnerScan.{item-at, seen-of}
-use Rattle.reader_shared.specs.Inner.{share-refusal, stale-by, no-record-answer, PlanCall}
+use Rattle.reader_shared.specs.Inner.{share-refusal, stale-by, no-record-answer, PlanCall, PlanCarried}
 use Rattle.reader_shared.proofs.Refused.{Passed, passed}
 use Rattle.reader_shared.proofs.Stale.{none-stale, nothing-stored, some-true}
 
@@ -99,12 +98,6 @@ not-found : (c : Slot) → found-slot c ≡ false → c ≡ NoSlot
 not-found (SlotAt i) e = let z : _≡_ {A = Bool} true false = e in let y : _≡_ {A = ℕ} 0 1 = cc in absurd (omega arith)
 not-found NoSlot e = refl
 
-abbrev some-memory : Memory
-some-memory = record { header = fresh-header 0 0 0; pages = []; frames = []; hash = []; bitmap = []; reader-frames = []; reader-owners = [] }
-
-abbrev some-process : Process
-some-process = record { local-readers = []; local-writer = 0; local-checkpoint = 0; registry = [] }
-
 -- what is seen of the first n records, where there are so many
 pub seen-parts : (n : ℕ) (r : List SharedReadMark) (mark : ℕ) (seen : Seen) → seen ≡ seen-of (min n (length r)) r mark → n ≤ length r → (record-of n r mark ≡ seen .place) × ((item-at r (record-of n r mark) ≡ seen .item) × (record-of n r mark ≡ Nothing → empty-record n r ≡ seen .empty))
 unfolding seen-of
@@ -147,7 +140,7 @@ module _ (n : ℕ) (mode : SharedWalOwnershipMode) (owner mark : ℕ) (bytes b f
       early-four (not (slots-in-limits n)) (shorter n (length b) (length f) (length o) (length l) || ltb (length r) n) (eqb owner 0) (eqb mark unused) (cond (full z p r) 13 (cond (bad-card n bytes) 14 0)) k (rw (← q) e) x
 
   refused-as : (j : ℕ) (slot : ℕ) → ((z : Memory) (p : Process) (r : List SharedReadMark) → seen ≡ seen-of (min n (length r)) r mark → records ≡ length r → number z p r ≡ j) → (j ≡ 0 → ⊥) → Means (refused j) b f o l records records slot
-  unfolding PlanCall register-reader-for-snapshot
+  unfolding PlanCarried register-reader-for-snapshot
   refused-as j slot h x r s q z p =
       rw (unchanged slot r q)
       (refuses (share-tests n mode owner mark bytes) (λ m p. shares n mode owner mark bytes (record-of n (p .registry) mark) m p) (memory z) (process p r) j (h z p r s q) x)
@@ -181,7 +174,7 @@ module _ (n : ℕ) (mode : SharedWalOwnershipMode) (owner mark : ℕ) (bytes b f
         share-bad-card slot x = refused-as 14 slot (λ z p r s q. later z p r q ∙ rw (placed r s q .0, placed r s q .1, lt-leb most-holders (seen .item .holders) some-room, x)) (λ q. omega arith)
 
         pub share-kept : (slot : ℕ) → bad-card n bytes ≡ false → Means (slot-taken (seen .item .slot) (seen .item .owner .0) mark) b f o l at records slot
-        unfolding PlanCall register-reader-for-snapshot
+        unfolding PlanCarried register-reader-for-snapshot
         share-kept slot x r s q z p =
             accepts (share-tests n mode owner mark bytes) (λ m p. shares n mode owner mark bytes (record-of n (p .registry) mark) m p) (memory z) (process p r) (later z p r q ∙ rw (placed r s q .0, placed r s q .1, lt-leb most-holders (seen .item .holders) some-room, x))
             ∙ rw (none-published slot (retained at r) (still-as-long at r q), placed r s q .0, placed r s q .1, lt-leb most-holders (seen .item .holders) some-room)
@@ -237,7 +230,7 @@ module _ (n : ℕ) (mode : SharedWalOwnershipMode) (owner mark : ℕ) (bytes b f
 
           pub new-taken : (slot : ℕ) → x ≡ Taken slot → (free : ℕ) → seen .empty ≡ At free →
               Means (slot-taken slot owner mark) b′ f′ o′ l′ records free slot
-          unfolding PlanCall
+          unfolding PlanCarried
           new-taken slot y free ef r s q z p =
               let told = answered (slot-taken slot owner mark) (ap (register-answer owner mark) y) in
               rw (none-retained r q)
@@ -246,10 +239,10 @@ module _ (n : ℕ) (mode : SharedWalOwnershipMode) (owner mark : ℕ) (bytes b f
           -- the slot is one of the n
           pub taken-below : (slot : ℕ) → x ≡ Taken slot → slot < n
           taken-below slot y =
-              register-took n mode owner mark bytes (memory some-memory) (locals-in some-process l) slot owner mark (ap (λ (d : Done). d .answer) (answered (slot-taken slot owner mark) (ap (register-answer owner mark) y) some-memory some-process)) .1 .1 .below
+              register-took n mode owner mark bytes (memory blank-memory) (locals-in blank-process l) slot owner mark (ap (λ (d : Done). d .answer) (answered (slot-taken slot owner mark) (ap (register-answer owner mark) y) blank-memory blank-process)) .1 .1 .below
 
           no-slot : x ≡ Turned → (free : ℕ) → seen .empty ≡ At free → (slot : ℕ) → Means none b′ f′ o′ l′ records records slot
-          unfolding PlanCall
+          unfolding PlanCarried
           no-slot y free ef slot r s q z p =
               let told = answered none (ap (register-answer owner mark) y) in
               rw (unchanged slot r q)
@@ -258,7 +251,7 @@ module _ (n : ℕ) (mode : SharedWalOwnershipMode) (owner mark : ℕ) (bytes b f
           -- it is no refusal
           not-denied : (j : ℕ) → x ≡ Denied j → ⊥
           not-denied j y =
-              never-refused owner mark (chosen some-memory some-process []) j (same-answer b′ f′ o′ l′ (refused j) (answered (refused j) (ap (register-answer owner mark) y)) some-memory some-process [])
+              never-refused owner mark (chosen blank-memory blank-process []) j (same-answer b′ f′ o′ l′ (refused j) (answered (refused j) (ap (register-answer owner mark) y)) blank-memory blank-process [])
 
           pub new-none : OneOf (1 ∷ 2 ∷ []) (tagOf RegisterType.the-type x) → (free : ℕ) → seen .empty ≡ At free → (slot : ℕ) → Means none b′ f′ o′ l′ records records slot
           new-none w free ef slot = elim (declined x w) [ inl y ↦ no-slot y free ef slot | inr y ↦ absurd (not-denied (y .0) (y .1)) ]
@@ -293,7 +286,7 @@ module _ (n : ℕ) (mode : SharedWalOwnershipMode) (owner mark : ℕ) (bytes b f
               made z p r s q (rw (unplaced r s q .0, good, both)) ∙ rw (both, x, y)
 
           by-tests : (t u : Bool) → found-slot (lowest-slot (available-by b l bytes) n 0) ≡ t → some-slot (stale-by mode bytes b o l) n 0 ≡ u → (slot : ℕ) → Means (share-answer (cond (t || u) (NotShared 13) NotTaken)) b f o l records records slot
-          unfolding PlanCall
+          unfolding PlanCarried
           by-tests true u x y slot = refused-as 13 slot (λ z p r s q. number-13 z p r s q (first-found z p r)) (λ q. omega arith)
             where
               first-found : (z : Memory) (p : Process) (r : List SharedReadMark) → found-slot (chosen z p r) ≡ true

@@ -26,7 +26,7 @@ use Rattle.reader_marks.specs.Registry.{record-of, one-less}
 use Rattle.reader_marks.specs.InnerChange.{released}
 use Rattle.reader_shared.specs.Shared.{registered, last-holder, unshare-tests, unshares, unregister-reader-for-snapshot, registry-in}
 use Rattle.reader_marks.specs.InnerScan.{item-at, seen-of}
-use Rattle.reader_shared.specs.Inner.{mark-refusal, last-refusal, PlanCall}
+use Rattle.reader_shared.specs.Inner.{mark-refusal, last-refusal, PlanCall, PlanCarried}
 use Rattle.reader_shared.proofs.Shares.{seen-parts}
 
 -- refusals 9, 10 and 12
@@ -119,7 +119,7 @@ module _ (n : ℕ) (mode : SharedWalOwnershipMode) (mark slot owner : ℕ) (b f 
   later-tests z p r = (slot-number if leb n slot) ∷ last-tests z p r
 
   refused-as : (j : ℕ) → ((z : Memory) (p : Process) (r : List SharedReadMark) → seen ≡ seen-of (min n (length r)) r mark → records ≡ length r → number z p r ≡ j) → (j ≡ 0 → ⊥) → Means (refused j) b f o l records
-  unfolding PlanCall unregister-reader-for-snapshot
+  unfolding PlanCarried unregister-reader-for-snapshot
   refused-as j h x r s q z p =
       rw (set-out r records (one-less (getD r records no-mark)) (omega arith))
       (refuses (unshare-tests n mode mark slot owner) (λ m p. unshares mode slot (record-of n (p .registry) mark) m p) (memory z) (process p r) j (h z p r s q) x)
@@ -182,7 +182,7 @@ module _ (n : ℕ) (mode : SharedWalOwnershipMode) (mark slot owner : ℕ) (b f 
                 unshare-kept-refused x = refused-as j kept-number x
 
                 pub unshare-kept : j ≡ 0 → Means ok b f o l at
-                unfolding PlanCall unregister-reader-for-snapshot
+                unfolding PlanCarried unregister-reader-for-snapshot
                 unshare-kept x r s q z p =
                     accepts (unshare-tests n mode mark slot owner) (λ m p. unshares mode slot (record-of n (p .registry) mark) m p) (memory z) (process p r) (kept-number z p r s q ∙ x)
                     ∙ rw (placed r s q .0, placed r s q .1, ne-eqb (seen .item .holders) 1 more)
@@ -212,7 +212,7 @@ module _ (n : ℕ) (mode : SharedWalOwnershipMode) (mark slot owner : ℕ) (b f 
                   unshare-last-mark x = refused-as j passed-number x
 
                   pub unshare-last : j ≡ 0 → (b′ f′ o′ l′ : List ℕ) → SlotsBecome (λ m p. apply (empty-slot mode slot m) m) b f o l b′ f′ o′ × (l′ ≡ set l slot 0) → Means ok b′ f′ o′ l′ at
-                  unfolding PlanCall unregister-reader-for-snapshot
+                  unfolding PlanCarried unregister-reader-for-snapshot
                   unshare-last x b′ f′ o′ l′ w r s q z p =
                       accepts (unshare-tests n mode mark slot owner) (λ m p. unshares mode slot (record-of n (p .registry) mark) m p) (memory z) (process p r) (passed-number z p r s q ∙ x)
                       ∙ rw (placed r s q .0, placed r s q .1, eq-eqb (seen .item .holders) 1 only, w .0 z p, w .1)

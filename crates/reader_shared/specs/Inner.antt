@@ -11,7 +11,7 @@ use Rattle.wal_types.specs.declared.SharedWalOwnershipMode.{SharedWalOwnershipM
 use Rattle.wal_types.specs.Settings.{slots-in-limits, unused, is-fcntl}
 use Rattle.wal_types.specs.Memory.{slot-bit}
 use Rattle.wal_types.specs.Refusal.{_if_, lowest, settings, short-memory, not-held, other-owner, no-owner, unused-mark, no-such-mark}
-use Rattle.wal_types.specs.Call.{Call, Answer}
+use Rattle.wal_types.specs.Call.{Call, Carried, Answer, after}
 use Rattle.reader_slots.specs.Slots.{shorter}
 use Rattle.reader_slots.specs.Search.{found-slot, lowest-slot, some-slot}
 use Rattle.reader_slots.specs.Inner.{available-by}
@@ -19,7 +19,7 @@ use Rattle.reader_marks.specs.declared.Seen.{Seen}
 use Rattle.reader_marks.specs.InnerScan.{seen-of}
 use Rattle.reader_shared.specs.declared.shared.Share.{Share}
 use Rattle.reader_shared.specs.declared.shared.Share.the-variants.{NoSlot as NotTaken, Refused as NotShared}
-use Rattle.reader_shared.specs.Shared.{SharedCall}
+use Rattle.reader_shared.specs.Shared.{SharedCarried}
 
 -- the number of refusal 1, 2, 9 or 10, 0 for none of them
 unfoldable pub share-refusal : ℕ → ℕ → ℕ → ℕ → ℕ → ℕ → ℕ → ℕ → ℕ
@@ -56,8 +56,11 @@ last-refusal mode owner shared local =
     ∷ (other-owner if (not (eqb owner shared) || (is-fcntl mode && not (eqb owner local))))
     ∷ [])
 
--- The call where the registry has so many records and a scan of the first n has seen this: it answers a, leaves the lists
--- b′, f′, o′ and l′, makes this change to the registry, and changes nothing else.
-unfoldable pub PlanCall : ℕ → ℕ → Seen → ℕ → Call → List ℕ → List ℕ → List ℕ → List ℕ → Answer → List ℕ → List ℕ → List ℕ → List ℕ → (List SharedReadMark → List SharedReadMark) → Type 0
-PlanCall n mark seen records call b f o l a b′ f′ o′ l′ change =
-    (r : List SharedReadMark) → seen ≡ seen-of (min n (length r)) r mark → records ≡ length r → SharedCall call b f o l r a b′ f′ o′ l′ (change r)
+-- Where the registry has so many records and a scan of the first n has seen this, it answers a, leaves the lists b′, f′, o′ and
+-- l′, makes this change to the registry, and changes nothing else.
+unfoldable pub PlanCarried : ℕ → ℕ → Seen → ℕ → Carried → List ℕ → List ℕ → List ℕ → List ℕ → Answer → List ℕ → List ℕ → List ℕ → List ℕ → (List SharedReadMark → List SharedReadMark) → Type 0
+PlanCarried n mark seen records carried b f o l a b′ f′ o′ l′ change =
+    (r : List SharedReadMark) → seen ≡ seen-of (min n (length r)) r mark → records ≡ length r → SharedCarried carried b f o l r a b′ f′ o′ l′ (change r)
+
+abbrev pub PlanCall : ℕ → ℕ → Seen → ℕ → Call → List ℕ → List ℕ → List ℕ → List ℕ → Answer → List ℕ → List ℕ → List ℕ → List ℕ → (List SharedReadMark → List SharedReadMark) → Type 0
+PlanCall n mark seen records call = PlanCarried n mark seen records (after call)

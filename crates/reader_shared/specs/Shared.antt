@@ -8,9 +8,9 @@ use lib.ListN.{length, getD}
 use Rattle.wal_types.specs.declared.SharedReadMark.{SharedReadMark}
 use Rattle.wal_types.specs.declared.SharedWalOwnershipMode.{SharedWalOwnershipMode}
 use Rattle.wal_types.specs.Settings.{slots-in-limits, unused, most-holders}
-use Rattle.wal_types.specs.Memory.{Memory, Process, no-mark}
+use Rattle.wal_types.specs.Memory.{Memory, Process, with-local-readers, with-registry, no-mark}
 use Rattle.wal_types.specs.Refusal.{Test, _if_, settings, short-memory, slot-number, not-held, other-owner, no-owner, unused-mark, no-such-mark, registry-full, card}
-use Rattle.wal_types.specs.Call.{Call, Answer, refused, slot-taken, none, ok, unless, after, done}
+use Rattle.wal_types.specs.Call.{Call, Carried, Answer, refused, slot-taken, none, ok, unless, after, done}
 use Rattle.reader_slots.specs.declared.slots.Slot.{Slot}
 use Rattle.reader_slots.specs.declared.slots.Slot.the-variants.{At as SlotAt, Nothing as NoSlot}
 use Rattle.reader_slots.specs.Slots.{short-slots, bad-card, held, slots-in}
@@ -120,16 +120,13 @@ share-answer (NotShared k) = refused k
 
 -- the process with these local owners and this registry
 abbrev pub registry-in : Process → List ℕ → List SharedReadMark → Process
-registry-in p l r =
-    record {
-      local-readers = l;
-      local-writer = p .local-writer;
-      local-checkpoint = p .local-checkpoint;
-      registry = r;
-    }
+registry-in p l r = with-registry (with-local-readers p l) r
 
--- The call on any memory with the lists b, f and o in it, by any process with the local owners l and the registry r: it
--- answers a, leaves the lists b′, f′, o′ and l′ and the registry r′, and changes nothing else.
+-- On any memory with the lists b, f and o in it, by any process with the local owners l and the registry r, it answers a,
+-- leaves the lists b′, f′, o′ and l′ and the registry r′, and changes nothing else.
+abbrev pub SharedCarried : Carried → List ℕ → List ℕ → List ℕ → List ℕ → List SharedReadMark → Answer → List ℕ → List ℕ → List ℕ → List ℕ → List SharedReadMark → Type 0
+SharedCarried carried b f o l r a b′ f′ o′ l′ r′ =
+    (z : Memory) (p : Process) → carried (slots-in z b f o) (registry-in p l r) ≡ done a (slots-in z b′ f′ o′) (registry-in p l′ r′)
+
 abbrev pub SharedCall : Call → List ℕ → List ℕ → List ℕ → List ℕ → List SharedReadMark → Answer → List ℕ → List ℕ → List ℕ → List ℕ → List SharedReadMark → Type 0
-SharedCall call b f o l r a b′ f′ o′ l′ r′ =
-    (z : Memory) (p : Process) → after call (slots-in z b f o) (registry-in p l r) ≡ done a (slots-in z b′ f′ o′) (registry-in p l′ r′)
+SharedCall call = SharedCarried (after call)

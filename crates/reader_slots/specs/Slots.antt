@@ -9,8 +9,8 @@ use Rattle.wal_types.specs.declared.SharedReadMark.{SharedReadMark}
 use Rattle.wal_types.specs.declared.SharedWalOwnershipMode.{SharedWalOwnershipMode}
 use Rattle.wal_types.specs.declared.SharedWalOwnershipMode.the-variants.{LinuxOfd, ProcessScopedFcntl}
 use Rattle.wal_types.specs.Settings.{words-for, unused}
-use Rattle.wal_types.specs.Memory.{Memory, Process, slot-bit, no-mark}
-use Rattle.wal_types.specs.Call.{Call, Answer, after, done}
+use Rattle.wal_types.specs.Memory.{Memory, Process, with-slots, with-local-readers, slot-bit, no-mark}
+use Rattle.wal_types.specs.Call.{Call, Carried, Answer, after, done}
 use Rattle.wal_types.specs.Store.{to-bitmap, to-reader-frame, to-reader-owner, Piece, one, when, _then_}
 use Rattle.reader_bitmap.specs.Bit.{set-bit, clear-bit}
 
@@ -54,13 +54,7 @@ failed bytes i = eqb (getD bytes i 0) 2
 
 -- the process with another local owner for slot i
 abbrev pub with-local : Process → ℕ → ℕ → Process
-with-local p i v =
-    record {
-      local-readers = set (p .local-readers) i v;
-      local-writer = p .local-writer;
-      local-checkpoint = p .local-checkpoint;
-      registry = p .registry;
-    }
+with-local p i v = with-local-readers p (set (p .local-readers) i v)
 
 -- Slot i's bit becomes 1, and 0.
 abbrev pub free-bit : ℕ → Piece
@@ -85,28 +79,16 @@ empty-slots mode test (suc left) i m = (when (test m i) (empty-slot mode i) then
 
 -- the memory with these bitmap words, slot frames and slot owners in it, and the process with these local owners
 abbrev pub slots-in : Memory → List ℕ → List ℕ → List ℕ → Memory
-slots-in z b f o =
-    record {
-      header = z .header;
-      pages = z .pages;
-      frames = z .frames;
-      hash = z .hash;
-      bitmap = b;
-      reader-frames = f;
-      reader-owners = o;
-    }
+slots-in z b f o = with-slots z b f o
 
 abbrev pub locals-in : Process → List ℕ → Process
-locals-in p l =
-    record {
-      local-readers = l;
-      local-writer = p .local-writer;
-      local-checkpoint = p .local-checkpoint;
-      registry = p .registry;
-    }
+locals-in p l = with-local-readers p l
 
--- The call on any memory with the lists b, f and o in it, by any process with the local owners l: it answers a, leaves the
--- lists b′, f′, o′ and l′, and changes nothing else.
+-- On any memory with the lists b, f and o in it, by any process with the local owners l, it answers a, leaves the lists b′, f′,
+-- o′ and l′, and changes nothing else.
+abbrev pub ReaderCarried : Carried → List ℕ → List ℕ → List ℕ → List ℕ → Answer → List ℕ → List ℕ → List ℕ → List ℕ → Type 0
+ReaderCarried carried b f o l a b′ f′ o′ l′ =
+    (z : Memory) (p : Process) → carried (slots-in z b f o) (locals-in p l) ≡ done a (slots-in z b′ f′ o′) (locals-in p l′)
+
 abbrev pub ReaderCall : Call → List ℕ → List ℕ → List ℕ → List ℕ → Answer → List ℕ → List ℕ → List ℕ → List ℕ → Type 0
-ReaderCall call b f o l a b′ f′ o′ l′ =
-    (z : Memory) (p : Process) → after call (slots-in z b f o) (locals-in p l) ≡ done a (slots-in z b′ f′ o′) (locals-in p l′)
+ReaderCall call = ReaderCarried (after call)

@@ -11,7 +11,7 @@ use borrow.Author.Tests.{ne-eqb}
 use Rattle.wal_types.specs.declared.Header.{Header}
 use Rattle.wal_types.specs.declared.SharedWalOwnershipMode.the-variants.{LinuxOfd}
 use Rattle.wal_types.specs.Settings.{unused}
-use Rattle.wal_types.specs.Memory.{Memory, Process, with-header, no-mark, slot-bit, bit-at}
+use Rattle.wal_types.specs.Memory.{Memory, Process, with-header, with-local-readers, with-registry, no-mark, blank-process, slot-bit, bit-at}
 use Rattle.wal_types.specs.Call.{Pair, pair, Answer, refused, ok, value, stored, kept, frame-found, listed, slot-taken, Done, done, after}
 use Rattle.reader_bitmap.specs.Bit.{clear-bit}
 use Rattle.header.specs.Publish.{publish-commit}
@@ -454,13 +454,7 @@ listed-now =
 
 -- THE SHARED HOLD: the first registration takes slot 0, the second joins it, and one of the two is released
 abbrev sharer : ℕ → Process
-sharer holders =
-    record {
-      local-readers = 10 ∷ 0 ∷ [];
-      local-writer = 0;
-      local-checkpoint = 0;
-      registry = record { mark = 3; slot = 0; owner = record { 0 = 10 }; holders = holders } ∷ no-mark ∷ [];
-    }
+sharer holders = with-registry (with-local-readers blank-process (10 ∷ 0 ∷ [])) (record { mark = 3; slot = 0; owner = record { 0 = 10 }; holders = holders } ∷ no-mark ∷ [])
 
 share5 : after (register-reader-for-snapshot 2 LinuxOfd 10 3 (1 ∷ 1 ∷ [])) m4 fresh-process ≡ done (slot-taken 0 10 3) m5 (sharer 1)
 unfolding register-reader-for-snapshot first-record byte-above lowest-slot bit-at clear-bit

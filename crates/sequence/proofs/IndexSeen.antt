@@ -22,10 +22,10 @@ use Rattle.index_grown.proofs.Lists.{up-to-keeps, up-to-only}
 use Rattle.index_grown.proofs.Records.{record-elsewhere}
 use Rattle.index_grown.proofs.Rollbacks.{rollback-leaves, rollback-elsewhere}
 use Rattle.index_grown.proofs.Views.{SameView, record-view, rollback-view}
-use Rattle.sequence.specs.Sequence.{Settings, Op, record-op, rollback-op, find-op, list-op, register-op, share-op, move-op, release-op, unshare-op, floor-op, limit-op, db-reader-op, acquire-op, unlock-op, commit-op, backfill-op, seq-op, epoch-op, World, Event, answer-of, next, run, Throughout}
+use Rattle.sequence.specs.Sequence.{Settings, Op, perform, record-op, rollback-op, find-op, list-op, register-op, share-op, move-op, release-op, unshare-op, floor-op, limit-op, db-reader-op, acquire-op, unlock-op, commit-op, backfill-op, seq-op, epoch-op, World, Event, answer-of, next, run, Throughout}
 use Rattle.sequence.specs.Book.{Book, entered, InPairs, here, there}
 use Rattle.sequence.specs.Hold.{accepted, KeepsAbove}
-use Rattle.sequence.proofs.IndexAside.{Untouched, find-beside, list-beside, register-beside, share-beside, move-beside, release-beside, unshare-beside, floor-beside, limit-beside, db-reader-beside, acquire-beside, unlock-beside, backfill-beside, seq-beside, epoch-beside}
+use Rattle.sequence.proofs.IndexAside.{Untouched, untouched-by, find-beside, list-beside, register-beside, share-beside, move-beside, release-beside, unshare-beside, floor-beside, limit-beside, db-reader-beside, acquire-beside, unlock-beside, backfill-beside, seq-beside, epoch-beside}
 use Rattle.sequence.proofs.IndexStands.{refusal-of, Stands, commit-raises, next-stands}
 
 -- A memory's entries have these pairs up to the mark, and the mark is published.
@@ -134,21 +134,21 @@ module _ (s : Settings) (mark : ℕ) (least : 1 ≤ mark) (es : List Pair) (at :
         let r = commit-raises frame c1 c2 count m p in
         let e = r .published-raised in
         index-keeps mark m _ (r .index-same) (omega arith)
-    op-keeps (find-op page low high x) above = untouched-keeps mark m _ (find-beside _ _ _ _ _ _ m _)
-    op-keeps (list-op low high room-pages room-frames) above = untouched-keeps mark m _ (list-beside _ _ _ _ _ _ m _)
-    op-keeps (register-op owner k bytes) above = untouched-keeps mark m _ (register-beside _ _ _ _ _ m _)
-    op-keeps (share-op owner k bytes) above = untouched-keeps mark m _ (share-beside _ _ _ _ _ m _)
-    op-keeps (move-op slot owner k) above = untouched-keeps mark m _ (move-beside _ _ _ _ m _)
-    op-keeps (release-op slot owner) above = untouched-keeps mark m _ (release-beside _ _ _ _ m _)
-    op-keeps (unshare-op k slot owner) above = untouched-keeps mark m _ (unshare-beside _ _ _ _ _ m _)
-    op-keeps (floor-op bytes) above = untouched-keeps mark m _ (floor-beside _ _ _ m _)
-    op-keeps (limit-op bytes) above = untouched-keeps mark m _ (limit-beside _ _ _ m _)
-    op-keeps (db-reader-op bytes) above = untouched-keeps mark m _ (db-reader-beside _ _ _ m _)
-    op-keeps (acquire-op lock owner byte) above = untouched-keeps mark m _ (acquire-beside _ _ _ m _)
-    op-keeps (unlock-op lock owner) above = untouched-keeps mark m _ (unlock-beside _ _ _ m _)
-    op-keeps (backfill-op n) above = untouched-keeps mark m _ (backfill-beside _ m _)
-    op-keeps seq-op above = untouched-keeps mark m _ (seq-beside m p)
-    op-keeps epoch-op above = untouched-keeps mark m _ (epoch-beside m p)
+    op-keeps (find-op page low high x) above = untouched-keeps mark m _ (untouched-by (perform s (find-op page low high x)) (find-beside _ _ _ _ _ _) m _)
+    op-keeps (list-op low high room-pages room-frames) above = untouched-keeps mark m _ (untouched-by (perform s (list-op low high room-pages room-frames)) (list-beside _ _ _ _ _ _) m _)
+    op-keeps (register-op owner k bytes) above = untouched-keeps mark m _ (untouched-by (perform s (register-op owner k bytes)) (register-beside _ _ _ _ _) m _)
+    op-keeps (share-op owner k bytes) above = untouched-keeps mark m _ (untouched-by (perform s (share-op owner k bytes)) (share-beside _ _ _ _ _) m _)
+    op-keeps (move-op slot owner k) above = untouched-keeps mark m _ (untouched-by (perform s (move-op slot owner k)) (move-beside _ _ _ _) m _)
+    op-keeps (release-op slot owner) above = untouched-keeps mark m _ (untouched-by (perform s (release-op slot owner)) (release-beside _ _ _ _) m _)
+    op-keeps (unshare-op k slot owner) above = untouched-keeps mark m _ (untouched-by (perform s (unshare-op k slot owner)) (unshare-beside _ _ _ _ _) m _)
+    op-keeps (floor-op bytes) above = untouched-keeps mark m _ (untouched-by (perform s (floor-op bytes)) (floor-beside _ _ _) m _)
+    op-keeps (limit-op bytes) above = untouched-keeps mark m _ (untouched-by (perform s (limit-op bytes)) (limit-beside _ _ _) m _)
+    op-keeps (db-reader-op bytes) above = untouched-keeps mark m _ (untouched-by (perform s (db-reader-op bytes)) (db-reader-beside _ _ _) m _)
+    op-keeps (acquire-op lock owner byte) above = untouched-keeps mark m _ (untouched-by (perform s (acquire-op lock owner byte)) (acquire-beside _ _ _) m _)
+    op-keeps (unlock-op lock owner) above = untouched-keeps mark m _ (untouched-by (perform s (unlock-op lock owner)) (unlock-beside _ _ _) m _)
+    op-keeps (backfill-op n) above = untouched-keeps mark m _ (untouched-by (perform s (backfill-op n)) (backfill-beside _) m _)
+    op-keeps seq-op above = untouched-keeps mark m _ (untouched-by (perform s seq-op) seq-beside m p)
+    op-keeps epoch-op above = untouched-keeps mark m _ (untouched-by (perform s epoch-op) epoch-beside m p)
 
   pub next-seen : (e : Event) (w : World) (b : Book) → Stands s (w .memory) b → Seen mark es (w .memory) → KeepsAbove s mark e w → Seen mark es (next s e w .memory)
   next-seen e w b stands seen above =

@@ -28,7 +28,7 @@ use Rattle.index_grown.proofs.Records.{record-grown, record-leaves, record-else
 use Rattle.index_grown.proofs.Rollbacks.{rollback-grown, rollback-leaves, rollback-elsewhere}
 use Rattle.sequence.specs.Sequence.{Settings, Op, record-op, rollback-op, find-op, list-op, register-op, share-op, move-op, release-op, unshare-op, floor-op, limit-op, db-reader-op, acquire-op, unlock-op, commit-op, backfill-op, seq-op, epoch-op, perform, World, Event, answer-of, next, run, FreshWorld}
 use Rattle.sequence.specs.Book.{Book, empty-book, found-pairs, recorded-in, rolled-back-in, entered, book-after}
-use Rattle.sequence.proofs.IndexAside.{Untouched, find-beside, list-beside, register-beside, share-beside, move-beside, release-beside, unshare-beside, floor-beside, limit-beside, db-reader-beside, acquire-beside, unlock-beside, backfill-beside, seq-beside, epoch-beside}
+use Rattle.sequence.proofs.IndexAside.{Untouched, untouched-by, find-beside, list-beside, register-beside, share-beside, move-beside, release-beside, unshare-beside, floor-beside, limit-beside, db-reader-beside, acquire-beside, unlock-beside, backfill-beside, seq-beside, epoch-beside}
 
 -- the number by which every call on the index is refused; 0 for none
 abbrev pub refusal-of : Settings → Memory → ℕ
@@ -173,21 +173,21 @@ op-stands s (rollback-op bound) m p b x = rollback-stands s m b x bound p
 op-stands s (commit-op frame c1 c2 count) m p b x =
     let r = commit-raises frame c1 c2 count m p in
     index-stands s m b x _ (max (b .published) frame) (r .index-same) (r .published-raised ∙ ap (λ (n : ℕ). max n frame) (x .published-by-book))
-op-stands s (find-op page low high w) m p b x = untouched-stands s m b x _ (find-beside _ _ _ _ _ _ m _)
-op-stands s (list-op low high room-pages room-frames) m p b x = untouched-stands s m b x _ (list-beside _ _ _ _ _ _ m _)
-op-stands s (register-op owner mark bytes) m p b x = untouched-stands s m b x _ (register-beside _ _ _ _ _ m _)
-op-stands s (share-op owner mark bytes) m p b x = untouched-stands s m b x _ (share-beside _ _ _ _ _ m _)
-op-stands s (move-op slot owner mark) m p b x = untouched-stands s m b x _ (move-beside _ _ _ _ m _)
-op-stands s (release-op slot owner) m p b x = untouched-stands s m b x _ (release-beside _ _ _ _ m _)
-op-stands s (unshare-op mark slot owner) m p b x = untouched-stands s m b x _ (unshare-beside _ _ _ _ _ m _)
-op-stands s (floor-op bytes) m p b x = untouched-stands s m b x _ (floor-beside _ _ _ m _)
-op-stands s (limit-op bytes) m p b x = untouched-stands s m b x _ (limit-beside _ _ _ m _)
-op-stands s (db-reader-op bytes) m p b x = untouched-stands s m b x _ (db-reader-beside _ _ _ m _)
-op-stands s (acquire-op lock owner byte) m p b x = untouched-stands s m b x _ (acquire-beside _ _ _ m _)
-op-stands s (unlock-op lock owner) m p b x = untouched-stands s m b x _ (unlock-beside _ _ _ m _)
-op-stands s (backfill-op n) m p b x = untouched-stands s m b x _ (backfill-beside _ m _)
-op-stands s seq-op m p b x = untouched-stands s m b x _ (seq-beside m p)
-op-stands s epoch-op m p b x = untouched-stands s m b x _ (epoch-beside m p)
+op-stands s (find-op page low high w) m p b x = untouched-stands s m b x _ (untouched-by (perform s (find-op page low high w)) (find-beside _ _ _ _ _ _) m _)
+op-stands s (list-op low high room-pages room-frames) m p b x = untouched-stands s m b x _ (untouched-by (perform s (list-op low high room-pages room-frames)) (list-beside _ _ _ _ _ _) m _)
+op-stands s (register-op owner mark bytes) m p b x = untouched-stands s m b x _ (untouched-by (perform s (register-op owner mark bytes)) (register-beside _ _ _ _ _) m _)
+op-stands s (share-op owner mark bytes) m p b x = untouched-stands s m b x _ (untouched-by (perform s (share-op owner mark bytes)) (share-beside _ _ _ _ _) m _)
+op-stands s (move-op slot owner mark) m p b x = untouched-stands s m b x _ (untouched-by (perform s (move-op slot owner mark)) (move-beside _ _ _ _) m _)
+op-stands s (release-op slot owner) m p b x = untouched-stands s m b x _ (untouched-by (perform s (release-op slot owner)) (release-beside _ _ _ _) m _)
+op-stands s (unshare-op mark slot owner) m p b x = untouched-stands s m b x _ (untouched-by (perform s (unshare-op mark slot owner)) (unshare-beside _ _ _ _ _) m _)
+op-stands s (floor-op bytes) m p b x = untouched-stands s m b x _ (untouched-by (perform s (floor-op bytes)) (floor-beside _ _ _) m _)
+op-stands s (limit-op bytes) m p b x = untouched-stands s m b x _ (untouched-by (perform s (limit-op bytes)) (limit-beside _ _ _) m _)
+op-stands s (db-reader-op bytes) m p b x = untouched-stands s m b x _ (untouched-by (perform s (db-reader-op bytes)) (db-reader-beside _ _ _) m _)
+op-stands s (acquire-op lock owner byte) m p b x = untouched-stands s m b x _ (untouched-by (perform s (acquire-op lock owner byte)) (acquire-beside _ _ _) m _)
+op-stands s (unlock-op lock owner) m p b x = untouched-stands s m b x _ (untouched-by (perform s (unlock-op lock owner)) (unlock-beside _ _ _) m _)
+op-stands s (backfill-op n) m p b x = untouched-stands s m b x _ (untouched-by (perform s (backfill-op n)) (backfill-beside _) m _)
+op-stands s seq-op m p b x = untouched-stands s m b x _ (untouched-by (perform s seq-op) seq-beside m p)
+op-stands s epoch-op m p b x = untouched-stands s m b x _ (untouched-by (perform s epoch-op) epoch-beside m p)
 
 pub next-stands : (s : Settings) (e : Event) (w : World) (b : Book) → Stands s (w .memory) b → Stands s (next s e w .memory) (entered (e .op) (answer-of s e w) b)
 next-stands s e w b x = op-stands s (e .op) (w .memory) (w .processes (e .who)) b x

@@ -1,4 +1,6 @@
 -- Demand 3: its proof; the order of refusals; and a worked sequence.
+pub mod ReadOnly
+pub mod ReaderStores
 pub mod SlotsAside
 pub mod SlotsCells
 pub mod SlotsStep

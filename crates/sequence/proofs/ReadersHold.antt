@@ -16,7 +16,7 @@ use Rattle.reader_register.proofs.Taken.{TookSlot, register-took}
 use Rattle.sequence.specs.Sequence.{Settings, Op, record-op, rollback-op, find-op, list-op, register-op, share-op, move-op, release-op, unshare-op, floor-op, limit-op, db-reader-op, acquire-op, unlock-op, commit-op, backfill-op, seq-op, epoch-op, perform, World, Event, answer-of, next, run, FreshWorld, Throughout}
 use Rattle.sequence.specs.Hold.{accepted, holders-next, holders-after, Kind, direct, shared, Begins, begins-direct, begins-shared, EndsDirect, SharedLasts, Lasts, SameSlot, LeavesSlot}
 use Rattle.sequence.specs.Statement.{at-begin, at-now, Premises}
-use Rattle.sequence.proofs.SlotsAside.{record-leaves, rollback-leaves, find-leaves, list-leaves, commit-leaves, backfill-leaves, seq-leaves, epoch-leaves, acquire-leaves, unlock-leaves}
+use Rattle.sequence.proofs.SlotsAside.{left-by, record-leaves, rollback-leaves, find-leaves, list-leaves, commit-leaves, backfill-leaves, seq-leaves, epoch-leaves, acquire-leaves, unlock-leaves}
 use Rattle.sequence.proofs.SlotsCells.{not-both, rec-at, NoRecord, NotNamed}
 use Rattle.sequence.proofs.SlotsStep.{Step, leaves-step, register-step, register-records, move-step, release-step, floor-step, limit-step, db-reader-step}
 use Rattle.sequence.proofs.SlotsShared.{Opening, share-opens, share-step, unshare-step}
@@ -38,10 +38,10 @@ module _ (s : Settings) (who : ℕ) (w : World) where
   OwnStep op = Step (s .slots) m p (after (perform s op) m p) (λ k c. holders-next who k (by who op) (answer-of s (by who op) w) c) (λ i x. EndsDirect s who i x (by who op) w)
 
   step-of : (op : Op) → OwnStep op
-  step-of (record-op page frame grow) = leaves-step _ m p _ _ (λ k c. refl) _ (record-leaves _ _ _ _ _ m p)
-  step-of (rollback-op bound) = leaves-step _ m p _ _ (λ k c. refl) _ (rollback-leaves _ _ _ m p)
-  step-of (find-op page low high x) = leaves-step _ m p _ _ (λ k c. refl) _ (find-leaves _ _ _ _ _ _ m p)
-  step-of (list-op low high room-pages room-frames) = leaves-step _ m p _ _ (λ k c. refl) _ (list-leaves _ _ _ _ _ _ m p)
+  step-of (record-op page frame grow) = leaves-step _ m p _ _ (λ k c. refl) _ (left-by (perform s (record-op page frame grow)) (record-leaves _ _ _ _ _) m p)
+  step-of (rollback-op bound) = leaves-step _ m p _ _ (λ k c. refl) _ (left-by (perform s (rollback-op bound)) (rollback-leaves _ _ _) m p)
+  step-of (find-op page low high x) = leaves-step _ m p _ _ (λ k c. refl) _ (left-by (perform s (find-op page low high x)) (find-leaves _ _ _ _ _ _) m p)
+  step-of (list-op low high room-pages room-frames) = leaves-step _ m p _ _ (λ k c. refl) _ (left-by (perform s (list-op low high room-pages room-frames)) (list-leaves _ _ _ _ _ _) m p)
   step-of (register-op owner mark bytes) = register-step (s .slots) (s .mode) owner mark bytes m p _ _ (λ k c. refl)
   step-of (share-op owner mark bytes) = share-step (s .slots) (s .mode) owner mark bytes m p who _
   step-of (move-op slot owner mark) = move-step (s .slots) slot owner mark m p who
@@ -50,12 +50,12 @@ module _ (s : Settings) (who : ℕ) (w : World) where
   step-of (floor-op bytes) = floor-step (s .slots) (s .mode) bytes m p _ _ (λ k c. refl)
   step-of (limit-op bytes) = limit-step (s .slots) (s .mode) bytes m p _ _ (λ k c. refl)
   step-of (db-reader-op bytes) = db-reader-step (s .slots) (s .mode) bytes m p _ _ (λ k c. refl)
-  step-of (acquire-op lock owner byte) = leaves-step _ m p _ _ (λ k c. refl) _ (acquire-leaves _ _ _ m p)
-  step-of (unlock-op lock owner) = leaves-step _ m p _ _ (λ k c. refl) _ (unlock-leaves _ _ _ m p)
-  step-of (commit-op frame c1 c2 count) = leaves-step _ m p _ _ (λ k c. refl) _ (commit-leaves _ _ _ _ m p)
-  step-of (backfill-op n) = leaves-step _ m p _ _ (λ k c. refl) _ (backfill-leaves _ m p)
-  step-of seq-op = leaves-step _ m p _ _ (λ k c. refl) _ (seq-leaves m p)
-  step-of epoch-op = leaves-step _ m p _ _ (λ k c. refl) _ (epoch-leaves m p)
+  step-of (acquire-op lock owner byte) = leaves-step _ m p _ _ (λ k c. refl) _ (left-by (perform s (acquire-op lock owner byte)) (acquire-leaves _ _ _) m p)
+  step-of (unlock-op lock owner) = leaves-step _ m p _ _ (λ k c. refl) _ (left-by (perform s (unlock-op lock owner)) (unlock-leaves _ _ _) m p)
+  step-of (commit-op frame c1 c2 count) = leaves-step _ m p _ _ (λ k c. refl) _ (left-by (perform s (commit-op frame c1 c2 count)) (commit-leaves _ _ _ _) m p)
+  step-of (backfill-op n) = leaves-step _ m p _ _ (λ k c. refl) _ (left-by (perform s (backfill-op n)) (backfill-leaves _) m p)
+  step-of seq-op = leaves-step _ m p _ _ (λ k c. refl) _ (left-by (perform s seq-op) seq-leaves m p)
+  step-of epoch-op = leaves-step _ m p _ _ (λ k c. refl) _ (left-by (perform s epoch-op) epoch-leaves m p)
 
 -- another process's call counts nothing
 not-counted : (who q k c : ℕ) (op : Op) (a : Answer) → (q ≡ who → ⊥) → holders-next who k (by q op) a c ≡ c

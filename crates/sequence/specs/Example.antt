@@ -6,7 +6,7 @@ use Prim.Native.Nat.{ℕ}
 use lib.ListN.{replicate}
 use Rattle.wal_types.specs.declared.SharedWalOwnershipMode.the-variants.{LinuxOfd}
 use Rattle.wal_types.specs.Settings.{unused}
-use Rattle.wal_types.specs.Memory.{Memory, Process, no-mark}
+use Rattle.wal_types.specs.Memory.{Memory, Process, with-header, with-index, with-slots, with-local-readers, with-registry, no-mark, blank-memory, blank-process}
 use Rattle.wal_types.specs.Fresh.{fresh-header}
 use Rattle.wal_types.specs.Call.{pair, Answer, refused, ok, value, stored, kept, frame-found, listed, slot-taken}
 use Rattle.index_find.specs.declared.find.Watermark.the-variants.{NoWatermark}
@@ -25,19 +25,11 @@ zeros n = replicate n 0
 -- fresh memory, the block in use; both slots are free: bits 0 and 1 of the word 3
 abbrev pub fresh-memory : Memory
 fresh-memory =
-    record {
-      header = fresh-header 1 0 0;
-      pages = zeros 4096;
-      frames = zeros 4096;
-      hash = zeros 8192;
-      bitmap = 3 ∷ [];
-      reader-frames = unused ∷ unused ∷ [];
-      reader-owners = 0 ∷ 0 ∷ [];
-    }
+    with-slots (with-index (with-header blank-memory (fresh-header 1 0 0)) (zeros 4096) (zeros 4096) (zeros 8192))
+    (3 ∷ []) (unused ∷ unused ∷ []) (0 ∷ 0 ∷ [])
 
 abbrev pub fresh-process : Process
-fresh-process =
-    record { local-readers = 0 ∷ 0 ∷ []; local-writer = 0; local-checkpoint = 0; registry = no-mark ∷ no-mark ∷ [] }
+fresh-process = with-registry (with-local-readers blank-process (0 ∷ 0 ∷ [])) (no-mark ∷ no-mark ∷ [])
 
 abbrev pub fresh-world : World
 fresh-world = record { memory = fresh-memory; processes = λ who. fresh-process }

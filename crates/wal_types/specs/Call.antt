@@ -71,6 +71,11 @@ pub record Done : Type 0 where
 abbrev pub done : Answer → Memory → Process → Done
 done a m p = record { answer = a; memory = m; process = p }
 
+-- How a call is carried out: what it answers and leaves, on the memory and by the process that it finds. A contract's form takes it as a
+-- parameter, whole (`after`) or in part.
+abbrev pub Carried : Type 0
+Carried = Memory → Process → Done
+
 -- the call made: every store applied
-abbrev pub after : Call → Memory → Process → Done
+abbrev pub after : Call → Carried
 after call m p = done (call m p .answer) (apply (call m p .stores) m) (call m p .process)

@@ -4,26 +4,11 @@ use Prim.Native.Nat.{ℕ, _<_}
 use lib.ListN.{getD}
 use Rattle.wal_types.specs.declared.Header.{Header}
 use Rattle.wal_types.specs.Settings.{cells-for, unused}
-use Rattle.wal_types.specs.Memory.{Memory, Process, slot-bit, no-mark}
+use Rattle.wal_types.specs.Memory.{Memory, Process, header-with, frame-index-blocks, checksum-1, checksum-2, zero-header, slot-bit, no-mark}
 
--- length, flag, counters and lock owners 0; the starting blocks are in use; the checksums are as given
+-- 0 in every cell, but for the starting blocks in use and the checksums, which are as given
 abbrev pub fresh-header : ℕ → ℕ → ℕ → Header
-fresh-header start c1 c2 =
-    record {
-      «frame_index_blocks» = start;
-      «frame_index_len» = 0;
-      «frame_index_overflowed» = 0;
-      «max_frame» = 0;
-      nbackfills = 0;
-      «transaction_count» = 0;
-      «visibility_generation» = 0;
-      «checkpoint_seq» = 0;
-      «checkpoint_epoch» = 0;
-      «checksum_1» = c1;
-      «checksum_2» = c2;
-      «writer_owner» = 0;
-      «checkpoint_owner» = 0;
-    }
+fresh-header start c1 c2 = header-with frame-index-blocks start (header-with checksum-1 c1 (header-with checksum-2 c2 zero-header))
 
 -- Shared memory for B blocks and n slots, with the starting blocks in use, before the first call.
 pub record Fresh (b start n : ℕ) (m : Memory) : Type 0 where
