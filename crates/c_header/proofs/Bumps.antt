@@ -38,10 +38,10 @@ use denote.Triple.Walked.{says, Stays, stay-ref, walkOf, AllGo, goes-ref, Walks,
 use Rattle.wal_types.specs.declared.Header.{Header}
 use Rattle.wal_types.proofs.Header as T
 use Rattle.wal_types.proofs.Header.Laws as T′
-use Rattle.header.specs.declared.publish.Bumped.{Bumped}
-use Rattle.header.proofs.publish.Bumped as B
-use Rattle.header.proofs.publish.Bumped.Laws as B′
-use Rattle.header.proofs.publish.bump_checkpoint_seq as core
+use Rattle.header_publish.specs.declared.Bumped.{Bumped}
+use Rattle.header_publish.proofs.Bumped as B
+use Rattle.header_publish.proofs.Bumped.Laws as B′
+use Rattle.header_publish.proofs.bump_checkpoint_seq as core
 use Rattle.c_header.proofs.header_calls.wal_bump_checkpoint_seq as entry
 
 -- the header's row, and its machine value

@@ -11,10 +11,10 @@ use Rattle.wal_types.specs.Memory.{Memory, Process, no-mark}
 use Rattle.wal_types.specs.Store.{HeaderCell, frame-index-blocks, frame-index-len, frame-index-overflowed, max-frame, nbackfills-cell, transaction-count, visibility-generation, checkpoint-seq, checkpoint-epoch, checksum-1, checksum-2, writer-owner, checkpoint-owner, Store, to-header, to-page, to-frame, to-hash, to-bitmap, to-reader-frame, to-reader-owner, put, apply, Piece, one, when, _then_}
 use Rattle.wal_types.specs.Refusal.{Test, lowest}
 use Rattle.wal_types.specs.Call.{Call, Outcome, ok, flag, value, listed, slot-taken, does, accepted-or, unless, after}
-use Rattle.header.specs.declared.locks.Lock.{Lock}
-use Rattle.header.specs.declared.locks.Lock.the-variants.{Writer, Checkpoint}
-use Rattle.header.specs.Publish.{publish-backfill, bump-checkpoint-seq, bump-checkpoint-epoch}
-use Rattle.header.specs.Locks.{local-owner, owner-cell, with-local-owner, acquire-tests, acquires, try-acquire, release-tests, releases, release}
+use Rattle.header_locks.specs.declared.Lock.{Lock}
+use Rattle.header_locks.specs.declared.Lock.the-variants.{Writer, Checkpoint}
+use Rattle.header_publish.specs.Publish.{publish-backfill, bump-checkpoint-seq, bump-checkpoint-epoch}
+use Rattle.header_locks.specs.Locks.{local-owner, owner-cell, with-local-owner, acquire-tests, acquires, try-acquire, release-tests, releases, release}
 use Rattle.index_find.specs.declared.find.Watermark.{Watermark}
 use Rattle.index_find.specs.Index.{index-tests}
 use Rattle.index_find.specs.Find.{find-answer, find-frame}

@@ -10,10 +10,10 @@ use Rattle.wal_types.specs.Memory.{Memory, Process}
 use Rattle.wal_types.specs.Store.{HeaderCell, Store, to-header, to-page, to-frame, to-hash, to-bitmap, to-reader-frame, to-reader-owner, put, apply, Piece, one, when, _then_, max-frame, checksum-1, checksum-2, transaction-count, visibility-generation, frame-index-len, frame-index-overflowed}
 use Rattle.wal_types.specs.Refusal.{Test, lowest}
 use Rattle.wal_types.specs.Call.{Call, Answer, Outcome, Done, done, refused, ok, flag, stored, dropped, kept, listed, does, accepted-or, unless, after}
-use Rattle.header.specs.declared.locks.Lock.{Lock}
-use Rattle.header.specs.declared.locks.Lock.the-variants.{Writer, Checkpoint}
-use Rattle.header.specs.Publish.{next, commit-stores, publish-commit, publish-backfill, bump-checkpoint-seq, bump-checkpoint-epoch}
-use Rattle.header.specs.Locks.{local-owner, owner-cell, with-local-owner, acquire-tests, acquires, try-acquire, release-tests, releases, release}
+use Rattle.header_locks.specs.declared.Lock.{Lock}
+use Rattle.header_locks.specs.declared.Lock.the-variants.{Writer, Checkpoint}
+use Rattle.header_publish.specs.Publish.{next, commit-stores, publish-commit, publish-backfill, bump-checkpoint-seq, bump-checkpoint-epoch}
+use Rattle.header_locks.specs.Locks.{local-owner, owner-cell, with-local-owner, acquire-tests, acquires, try-acquire, release-tests, releases, release}
 use Rattle.index_hash.specs.declared.Cell.{Cell}
 use Rattle.index_hash.specs.declared.Cell.the-variants.{Empty, Full}
 use Rattle.index_hash.specs.Block.{empty-cell}

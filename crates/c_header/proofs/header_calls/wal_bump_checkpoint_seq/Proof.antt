@@ -6,9 +6,9 @@ use denote.Triple.Spec.{tripleOf}
 use denote.Triple.Table.{entered, cited}
 use Rattle.wal_types.specs.declared.Header.{Header}
 use Rattle.wal_types.specs.Call.{value}
-use Rattle.header.specs.Publish.{bump-checkpoint-seq, HeaderCall}
-use Rattle.header.proofs.publish.bump_checkpoint_seq.Symbol as core
-use Rattle.header.proofs.publish.bump_checkpoint_seq.Met as core-thm
+use Rattle.header_publish.specs.Publish.{bump-checkpoint-seq, HeaderCall}
+use Rattle.header_publish.proofs.bump_checkpoint_seq.Symbol as core
+use Rattle.header_publish.proofs.bump_checkpoint_seq.Met as core-thm
 use Rattle.c_header.proofs.Bumps.{Core, entry-meets}
 use Rattle.c_header.proofs.header_calls.wal_bump_checkpoint_seq.Key as key
 use Rattle.c_header.proofs.header_calls.wal_bump_checkpoint_seq as entry

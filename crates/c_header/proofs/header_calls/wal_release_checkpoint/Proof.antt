@@ -5,8 +5,8 @@ use contract.Running.{givenOf, tables, tablesOf}
 use denote.Triple.Spec.{tripleOf}
 use denote.Triple.Table.{entered, cited}
 use Rattle.wal_types.specs.declared.Header.{Header}
-use Rattle.header.specs.declared.locks.Lock.the-variants.{Checkpoint}
-use Rattle.header.specs.Locks.{release}
+use Rattle.header_locks.specs.declared.Lock.the-variants.{Checkpoint}
+use Rattle.header_locks.specs.Locks.{release}
 use Rattle.c_header_replies.specs.declared.lock_reply.LockReply.{LockReply}
 use Rattle.c_numbers.specs.Mode.{mode-given, with-mode}
 use Rattle.c_header_replies.specs.LockReply.{LockReplied}

@@ -5,8 +5,8 @@ use contract.Running.{givenOf, tables, tablesOf}
 use denote.Triple.Spec.{tripleOf}
 use denote.Triple.Table.{entered, cited}
 use Rattle.wal_types.specs.declared.Header.{Header}
-use Rattle.header.specs.declared.locks.Lock.the-variants.{Writer}
-use Rattle.header.specs.Locks.{try-acquire}
+use Rattle.header_locks.specs.declared.Lock.the-variants.{Writer}
+use Rattle.header_locks.specs.Locks.{try-acquire}
 use Rattle.c_header_replies.specs.declared.lock_reply.LockReply.{LockReply}
 use Rattle.c_header_replies.specs.LockReply.{LockReplied}
 use Rattle.c_header.proofs.Acquires.{Core, entry-meets}
