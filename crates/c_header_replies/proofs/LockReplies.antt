@@ -1,14 +1,14 @@
 -- The reply of a lock call tells what the call's contract says, and the header with the owners that the call leaves is what it
 -- leaves. Assumes nothing.
 use mathlib.Core.Path.{_≡_, refl, ap, subst}
-use mathlib.Core.Bool.{Bool, true, false, _&&_, cond}
+use mathlib.Core.Bool.{Bool, true, false, _&&_, _||_, cond}
 use mathlib.Core.List.{[], _∷_}
 use Prim.Native.Nat.{ℕ}
 use lib.Dec.{eqb}
 use Rattle.wal_types.specs.declared.Header.{Header}
 use Rattle.wal_types.specs.declared.SharedWalOwnershipMode.{SharedWalOwnershipMode}
 use Rattle.wal_types.specs.Memory.{Memory, Process, with-header}
-use Rattle.wal_types.specs.Store.{HeaderCell, to-header, frame-index-blocks, frame-index-len, frame-index-overflowed, max-frame, nbackfills-cell, transaction-count, visibility-generation, checkpoint-seq, checkpoint-epoch, checksum-1, checksum-2, writer-owner, checkpoint-owner}
+use Rattle.wal_types.specs.Store.{HeaderCell, place, to-header, writer-owner, checkpoint-owner}
 use Rattle.wal_types.specs.Call.{Call, Outcome, Answer, refused, flag}
 use Rattle.header_locks.specs.declared.Lock.{Lock}
 use Rattle.header_locks.specs.declared.Lock.the-variants.{Writer, Checkpoint}
@@ -27,19 +27,7 @@ use Rattle.c_numbers.proofs.Touched.{taken-from, AllInside, outside-stays, all-
 
 -- the header's cells that a lock call stores to
 abbrev is-owner : HeaderCell → Bool
-is-owner frame-index-blocks = false
-is-owner frame-index-len = false
-is-owner frame-index-overflowed = false
-is-owner max-frame = false
-is-owner nbackfills-cell = false
-is-owner transaction-count = false
-is-owner visibility-generation = false
-is-owner checkpoint-seq = false
-is-owner checkpoint-epoch = false
-is-owner checksum-1 = false
-is-owner checksum-2 = false
-is-owner writer-owner = true
-is-owner checkpoint-owner = true
+is-owner c = eqb (place c) (place writer-owner) || eqb (place c) (place checkpoint-owner)
 
 -- a call that stores to these only
 abbrev OwnersOnly : Call → Type 0
