@@ -1,5 +1,4 @@
--- Walks of the C functions of the header calls.
-mod LockParts
-mod Bumps
-mod Acquires
-mod Releases
+-- The walk of the C functions of the header's calls.
+mod Numbers
+mod HeaderWalk
+mod Results

@@ -2,15 +2,14 @@
 // leaves is stored over it.
 use c_header_replies::lock_reply;
 use c_header_replies::lock_reply::LockReply;
-use header::publish;
 use wal_types::Header;
 use wal_types::SharedOwnerRecord;
 ghost use mathlib.Core.Path.{_≡_};
 ghost use Prim.Native.Nat.{_+_, _*_, _/_, _%_, _^_};
-ghost use Rattle.header.specs.declared.locks.Lock.the-variants.{Writer, Checkpoint};
+ghost use Rattle.header_locks.specs.declared.Lock.the-variants.{Writer, Checkpoint};
 ghost use Rattle.wal_types.specs.Call.{ok, value};
-ghost use Rattle.header.specs.Publish.{publish-commit, publish-backfill, bump-checkpoint-seq, bump-checkpoint-epoch, HeaderCall};
-ghost use Rattle.header.specs.Locks.{try-acquire, release};
+ghost use Rattle.header_publish.specs.Publish.{publish-commit, publish-backfill, bump-checkpoint-seq, bump-checkpoint-epoch, HeaderCall};
+ghost use Rattle.header_locks.specs.Locks.{try-acquire, release};
 ghost use Rattle.c_numbers.specs.Mode.{mode-given, with-mode};
 ghost use Rattle.c_header_replies.specs.LockReply.{LockReplied};
 
@@ -50,7 +49,7 @@ pub extern "C" fn wal_publish_commit(
 )
     ensures { λ _. ⌜ HeaderCall (publish-commit «max_frame» «checksum_1» «checksum_2» «transaction_count») (now (header .entry)) ok (now (header .exit)) ⌝ }
 {
-    *header = publish::publish_commit(
+    *header = header_publish::publish_commit(
         *header,
         max_frame,
         checksum_1,
@@ -64,7 +63,7 @@ pub extern "C" fn wal_publish_commit(
 pub extern "C" fn wal_publish_backfill(header: &mut Header, nbackfills: u64)
     ensures { λ _. ⌜ HeaderCall (publish-backfill nbackfills) (now (header .entry)) ok (now (header .exit)) ⌝ }
 {
-    *header = publish::publish_backfill(*header, nbackfills);
+    *header = header_publish::publish_backfill(*header, nbackfills);
 }
 
 // Raises the checkpoint number; the answer is the new one.
@@ -72,7 +71,7 @@ pub extern "C" fn wal_publish_backfill(header: &mut Header, nbackfills: u64)
 pub extern "C" fn wal_bump_checkpoint_seq(header: &mut Header) -> u32
     ensures { λ r. ⌜ HeaderCall bump-checkpoint-seq (now (header .entry)) (value r) (now (header .exit)) ⌝ }
 {
-    let bumped = publish::bump_checkpoint_seq(*header);
+    let bumped = header_publish::bump_checkpoint_seq(*header);
     *header = bumped.header;
     bumped.value
 }
@@ -82,7 +81,7 @@ pub extern "C" fn wal_bump_checkpoint_seq(header: &mut Header) -> u32
 pub extern "C" fn wal_bump_checkpoint_epoch(header: &mut Header) -> u32
     ensures { λ r. ⌜ HeaderCall bump-checkpoint-epoch (now (header .entry)) (value r) (now (header .exit)) ⌝ }
 {
-    let bumped = publish::bump_checkpoint_epoch(*header);
+    let bumped = header_publish::bump_checkpoint_epoch(*header);
     *header = bumped.header;
     bumped.value
 }

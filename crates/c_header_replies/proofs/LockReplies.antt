@@ -7,14 +7,14 @@ use Rattle.wal_types.specs.declared.SharedWalOwnershipMode.{SharedWalOwnershipM
 use Rattle.wal_types.specs.Memory.{Memory, Process, with-header, header-with, writer-owner, checkpoint-owner, Store, to-header, put}
 use Rattle.wal_types.specs.Call.{Call, Answer, refused}
 use Rattle.wal_types.proofs.Every.{EveryOfCall, by-every}
-use Rattle.header.specs.declared.locks.Lock.{Lock}
-use Rattle.header.specs.declared.locks.Lock.the-variants.{Writer, Checkpoint}
-use Rattle.header.specs.declared.locks.Acquire.{Acquire}
-use Rattle.header.specs.declared.locks.Acquire.the-variants.{Taken, Busy, Refused}
-use Rattle.header.specs.declared.locks.Release.{Release}
-use Rattle.header.specs.declared.locks.Release.the-variants.{Released, Refused as NotReleased}
-use Rattle.header.specs.Locks.{owner-cell, try-acquire, release, with-local-owner, acquire-answer, acquire-header, acquire-local, release-answer, release-header, release-local, LockCall}
-use Rattle.header.proofs.LockStores.{acquire-stores as acquire-stores-to, release-stores as release-stores-to}
+use Rattle.header_locks.specs.declared.Lock.{Lock}
+use Rattle.header_locks.specs.declared.Lock.the-variants.{Writer, Checkpoint}
+use Rattle.header_locks.specs.declared.Acquire.{Acquire}
+use Rattle.header_locks.specs.declared.Acquire.the-variants.{Taken, Busy, Refused}
+use Rattle.header_locks.specs.declared.Release.{Release}
+use Rattle.header_locks.specs.declared.Release.the-variants.{Released, Refused as NotReleased}
+use Rattle.header_locks.specs.Locks.{owner-cell, try-acquire, release, with-local-owner, acquire-answer, acquire-header, acquire-local, release-answer, release-header, release-local, LockCall}
+use Rattle.header_locks.proofs.Stored.{acquire-stores as acquire-stores-to, release-stores as release-stores-to}
 use Rattle.c_header_replies.specs.declared.lock_reply.LockReply.{LockReply}
 use Rattle.c_numbers.specs.declared.Mode.{Mode}
 use Rattle.c_numbers.specs.declared.Mode.the-variants.{Given, Unknown}

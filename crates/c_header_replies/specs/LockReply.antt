@@ -5,12 +5,12 @@ use Rattle.wal_types.specs.declared.Header.{Header}
 use Rattle.wal_types.specs.Memory.{Memory, Process, with-header}
 use Rattle.wal_types.specs.Store.{header-with, writer-owner, checkpoint-owner}
 use Rattle.wal_types.specs.Call.{Call, Done, after}
-use Rattle.header.specs.declared.locks.Lock.{Lock}
-use Rattle.header.specs.declared.locks.Acquire.{Acquire}
-use Rattle.header.specs.declared.locks.Acquire.the-variants.{Taken, Busy, Refused}
-use Rattle.header.specs.declared.locks.Release.{Release}
-use Rattle.header.specs.declared.locks.Release.the-variants.{Released, Refused as NotReleased}
-use Rattle.header.specs.Locks.{with-local-owner}
+use Rattle.header_locks.specs.declared.Lock.{Lock}
+use Rattle.header_locks.specs.declared.Acquire.{Acquire}
+use Rattle.header_locks.specs.declared.Acquire.the-variants.{Taken, Busy, Refused}
+use Rattle.header_locks.specs.declared.Release.{Release}
+use Rattle.header_locks.specs.declared.Release.the-variants.{Released, Refused as NotReleased}
+use Rattle.header_locks.specs.Locks.{with-local-owner}
 use Rattle.c_header_replies.specs.declared.lock_reply.LockReply.{LockReply}
 use Rattle.c_header_replies.specs.declared.lock_reply.Owners.{Owners}
 use Rattle.c_header_replies.specs.declared.lock_reply.LockLeft.{LockLeft}

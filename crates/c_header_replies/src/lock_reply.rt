@@ -1,13 +1,13 @@
 // The lock calls in numbers: the reply, and the header that the call leaves.
 use c_numbers::Mode;
-use header::locks;
-use header::locks::Acquire;
-use header::locks::Release;
+use header_locks::Acquire;
+use header_locks::Release;
 use wal_types::Header;
 use wal_types::SharedOwnerRecord;
+use wal_types::refusal;
 ghost use mathlib.Core.Path.{_≡_};
-ghost use Rattle.header.specs.declared.locks.Lock.the-variants.{Writer, Checkpoint};
-ghost use Rattle.header.specs.Locks.{try-acquire, release, release-answer, release-header, release-local, LockCall};
+ghost use Rattle.header_locks.specs.declared.Lock.the-variants.{Writer, Checkpoint};
+ghost use Rattle.header_locks.specs.Locks.{try-acquire, release, release-answer, release-header, release-local, LockCall};
 ghost use Rattle.c_numbers.specs.Mode.{mode-given, with-mode};
 ghost use Rattle.c_header_replies.specs.LockReply.{owners-of, acquire-owners, release-owners, with-owners, LockReplied};
 
@@ -85,7 +85,7 @@ pub fn try_acquire_writer(header: Header, local_owner: u64, owner: u64, card: u8
     ensures { λ r. ⌜ LockReplied Writer (try-acquire Writer owner card) header «local_owner» (r .header) (r .reply) ⌝ }
 {
     let held = SharedOwnerRecord(local_owner);
-    let answer = locks::try_acquire_writer(header, held, SharedOwnerRecord(owner), card);
+    let answer = header_locks::try_acquire_writer(header, held, SharedOwnerRecord(owner), card);
     left(header, acquired(answer, header, held))
 }
 
@@ -93,7 +93,7 @@ pub fn try_acquire_checkpoint(header: Header, local_owner: u64, owner: u64, card
     ensures { λ r. ⌜ LockReplied Checkpoint (try-acquire Checkpoint owner card) header «local_owner» (r .header) (r .reply) ⌝ }
 {
     let held = SharedOwnerRecord(local_owner);
-    let answer = locks::try_acquire_checkpoint(header, held, SharedOwnerRecord(owner), card);
+    let answer = header_locks::try_acquire_checkpoint(header, held, SharedOwnerRecord(owner), card);
     left(header, acquired(answer, header, held))
 }
 
@@ -107,9 +107,9 @@ fn writer_released(
     ensures { λ r. ⌜ LockCall Writer (with-mode (mode-given mode) (λ given. release Writer given (owner .0))) header («local_owner» .0) (release-answer r) (release-header header r) (release-local («local_owner» .0) r) ⌝ }
 {
     let Mode::Given(given) = c_numbers::mode_of(mode) else {
-        return Release::Refused(1);
+        return Release::Refused(refusal::SETTINGS);
     };
-    locks::release_writer(given, header, local_owner, owner)
+    header_locks::release_writer(given, header, local_owner, owner)
 }
 
 fn checkpoint_released(
@@ -121,9 +121,9 @@ fn checkpoint_released(
     ensures { λ r. ⌜ LockCall Checkpoint (with-mode (mode-given mode) (λ given. release Checkpoint given (owner .0))) header («local_owner» .0) (release-answer r) (release-header header r) (release-local («local_owner» .0) r) ⌝ }
 {
     let Mode::Given(given) = c_numbers::mode_of(mode) else {
-        return Release::Refused(1);
+        return Release::Refused(refusal::SETTINGS);
     };
-    locks::release_checkpoint(given, header, local_owner, owner)
+    header_locks::release_checkpoint(given, header, local_owner, owner)
 }
 
 pub fn release_writer(mode: u32, header: Header, local_owner: u64, owner: u64) -> LockLeft

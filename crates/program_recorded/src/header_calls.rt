@@ -1,9 +1,9 @@
 // The calls on the header: publishes, bumps and the two locks.
 use crate::row;
 use crate::row::Row;
-use header::locks::Acquire;
-use header::locks::Release;
-use header::publish::Bumped;
+use header_locks::Acquire;
+use header_locks::Release;
+use header_publish::Bumped;
 use wal_types::Header;
 use wal_types::SharedOwnerRecord;
 
@@ -98,7 +98,7 @@ fn publish_commit(header: Header, given: Given) -> Row {
     if (given.second | given.third) > MAX_U32 {
         return row::other_form();
     }
-    let next = header::publish::publish_commit(
+    let next = header_publish::publish_commit(
         header,
         given.first,
         row::low_half(given.second),
@@ -109,7 +109,7 @@ fn publish_commit(header: Header, given: Given) -> Row {
 }
 
 fn publish_backfill(header: Header, nbackfills: u64) -> Row {
-    published(header::publish::publish_backfill(header, nbackfills), 0)
+    published(header_publish::publish_backfill(header, nbackfills), 0)
 }
 
 fn bumped(bumped: Bumped) -> Row {
@@ -125,10 +125,10 @@ fn acquire(call: u64, header: Header, given: Given) -> Row {
     let owner = SharedOwnerRecord(given.second);
     let card = row::low_byte(given.third);
     if call == 5 {
-        let acquire = header::locks::try_acquire_writer(header, local, owner, card);
+        let acquire = header_locks::try_acquire_writer(header, local, owner, card);
         return locked(header, given.first, acquire);
     }
-    let acquire = header::locks::try_acquire_checkpoint(header, local, owner, card);
+    let acquire = header_locks::try_acquire_checkpoint(header, local, owner, card);
     locked(header, given.first, acquire)
 }
 
@@ -140,10 +140,10 @@ fn release(call: u64, header: Header, given: Given) -> Row {
     let mode = row::mode_of(given.second);
     let owner = SharedOwnerRecord(given.third);
     if call == 7 {
-        let release = header::locks::release_writer(mode, header, local, owner);
+        let release = header_locks::release_writer(mode, header, local, owner);
         return unlocked(header, given.first, release);
     }
-    let release = header::locks::release_checkpoint(mode, header, local, owner);
+    let release = header_locks::release_checkpoint(mode, header, local, owner);
     unlocked(header, given.first, release)
 }
 
@@ -151,8 +151,8 @@ fn make(call: u64, header: Header, given: Given) -> Row {
     match call {
         1 => publish_commit(header, given),
         2 => publish_backfill(header, given.first),
-        3 => bumped(header::publish::bump_checkpoint_seq(header)),
-        4 => bumped(header::publish::bump_checkpoint_epoch(header)),
+        3 => bumped(header_publish::bump_checkpoint_seq(header)),
+        4 => bumped(header_publish::bump_checkpoint_epoch(header)),
         5 | 6 => acquire(call, header, given),
         _ => release(call, header, given),
     }

@@ -14,7 +14,7 @@ use Rattle.wal_types.specs.Settings.{unused}
 use Rattle.wal_types.specs.Memory.{Memory, Process, with-header, with-local-readers, with-registry, no-mark, blank-process, slot-bit, bit-at}
 use Rattle.wal_types.specs.Call.{Pair, pair, Answer, refused, ok, value, stored, kept, frame-found, listed, slot-taken, Done, done, after}
 use Rattle.reader_bitmap.specs.Bit.{clear-bit}
-use Rattle.header.specs.Publish.{publish-commit}
+use Rattle.header_publish.specs.Publish.{publish-commit}
 use Rattle.index_end.specs.declared.place.Place.the-variants.{AtEnd}
 use Rattle.index_find.specs.declared.find.Watermark.the-variants.{NoWatermark}
 use Rattle.index_find.specs.declared.find.Lookup.the-variants.{Frame, NoFrame}

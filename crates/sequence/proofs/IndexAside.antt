@@ -8,12 +8,12 @@ use Rattle.wal_types.specs.declared.SharedWalOwnershipMode.{SharedWalOwnershipM
 use Rattle.wal_types.specs.Memory.{Memory, Process, HeaderCell, place, frame-index-blocks, frame-index-len, max-frame, Store, to-header, to-index, to-slots, put}
 use Rattle.wal_types.specs.Call.{Call, after}
 use Rattle.wal_types.proofs.Every.{Every, EveryOfCall, every-of-reads, by-every}
-use Rattle.header.specs.declared.locks.Lock.{Lock}
-use Rattle.header.specs.declared.locks.Lock.the-variants.{Writer, Checkpoint}
-use Rattle.header.specs.Publish.{publish-backfill, bump-checkpoint-seq, bump-checkpoint-epoch}
-use Rattle.header.specs.Locks.{owner-cell, try-acquire, release}
-use Rattle.header.proofs.LockStores.{acquire-stores, release-stores as unlock-stores}
-use Rattle.header.proofs.PublishStores.{backfill-stores, seq-stores, epoch-stores}
+use Rattle.header_locks.specs.declared.Lock.{Lock}
+use Rattle.header_locks.specs.declared.Lock.the-variants.{Writer, Checkpoint}
+use Rattle.header_publish.specs.Publish.{publish-backfill, bump-checkpoint-seq, bump-checkpoint-epoch}
+use Rattle.header_locks.specs.Locks.{owner-cell, try-acquire, release}
+use Rattle.header_locks.proofs.Stored.{acquire-stores, release-stores as unlock-stores}
+use Rattle.header_publish.proofs.Stored.{backfill-stores, seq-stores, epoch-stores}
 use Rattle.index_find.specs.declared.find.Watermark.{Watermark}
 use Rattle.index_find.specs.Find.{find-frame}
 use Rattle.list_latest.specs.Latest.{iter-latest-frames}

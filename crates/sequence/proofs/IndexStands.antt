@@ -12,8 +12,8 @@ use Rattle.wal_types.specs.declared.Header.{Header}
 use Rattle.wal_types.specs.Memory.{Memory, Process}
 use Rattle.wal_types.specs.Store.{to-header, max-frame, checksum-1, checksum-2, transaction-count, visibility-generation, Piece, apply, one, when, _then_}
 use Rattle.wal_types.specs.Call.{Pair, pair, Answer, refused, ok, flag, value, stored, dropped, kept, frame-found, none, listed, slot-taken, Done, after}
-use Rattle.header.specs.Publish.{publish-commit}
-use Rattle.header.specs.Publish.{next as next-count}
+use Rattle.header_publish.specs.Publish.{publish-commit}
+use Rattle.header_publish.specs.Publish.{next as next-count}
 use Rattle.index_find.specs.Index.{index-refusal}
 use Rattle.index_record.specs.Record.{record-frame}
 use Rattle.index_record.specs.Rollback.{rollback-frames}

@@ -10,12 +10,12 @@ use Rattle.wal_types.specs.Store.{apply}
 use Rattle.wal_types.specs.Refusal.{Test, lowest}
 use Rattle.wal_types.specs.Call.{Call, Outcome, Done, done, refused, flag, stored, dropped, kept, does, accepted-or, unless, after}
 use Rattle.wal_types.proofs.Every.{EveryOfCall, Reads, every-of-reads, by-every}
-use Rattle.header.specs.declared.locks.Lock.{Lock}
-use Rattle.header.specs.declared.locks.Lock.the-variants.{Writer, Checkpoint}
-use Rattle.header.specs.Publish.{publish-commit, publish-backfill, bump-checkpoint-seq, bump-checkpoint-epoch}
-use Rattle.header.specs.Locks.{local-owner, owner-cell, with-local-owner, acquire-tests, acquires, try-acquire, release-tests, releases, release}
-use Rattle.header.proofs.LockStores.{acquire-stores, release-stores}
-use Rattle.header.proofs.PublishStores.{commit-stores-to, backfill-stores, seq-stores, epoch-stores}
+use Rattle.header_locks.specs.declared.Lock.{Lock}
+use Rattle.header_locks.specs.declared.Lock.the-variants.{Writer, Checkpoint}
+use Rattle.header_publish.specs.Publish.{publish-commit, publish-backfill, bump-checkpoint-seq, bump-checkpoint-epoch}
+use Rattle.header_locks.specs.Locks.{local-owner, owner-cell, with-local-owner, acquire-tests, acquires, try-acquire, release-tests, releases, release}
+use Rattle.header_locks.proofs.Stored.{acquire-stores, release-stores}
+use Rattle.header_publish.proofs.Stored.{commit-stores-to, backfill-stores, seq-stores, epoch-stores}
 use Rattle.index_find.specs.declared.find.Watermark.{Watermark}
 use Rattle.index_find.specs.Index.{index-tests}
 use Rattle.index_find.specs.Find.{find-frame}

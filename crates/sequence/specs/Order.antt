@@ -6,7 +6,7 @@ use Prim.Native.Nat.{ℕ}
 use Rattle.wal_types.specs.declared.SharedWalOwnershipMode.{SharedWalOwnershipMode}
 use Rattle.wal_types.specs.Memory.{Memory, Process}
 use Rattle.wal_types.specs.Refusal.{rising}
-use Rattle.header.specs.Locks.{acquire-tests, release-tests as unlock-tests}
+use Rattle.header_locks.specs.Locks.{acquire-tests, release-tests as unlock-tests}
 use Rattle.index_find.specs.Index.{index-tests}
 use Rattle.index_record.specs.Record.{record-tests}
 use Rattle.list_latest.specs.Latest.{list-tests}

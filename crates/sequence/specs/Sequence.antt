@@ -7,9 +7,9 @@ use Rattle.wal_types.specs.declared.SharedWalOwnershipMode.{SharedWalOwnershipM
 use Rattle.wal_types.specs.Memory.{Memory, Process}
 use Rattle.wal_types.specs.Call.{Call, Answer, after}
 use Rattle.wal_types.specs.Fresh.{Fresh, FreshProcess}
-use Rattle.header.specs.declared.locks.Lock.{Lock}
-use Rattle.header.specs.Publish.{publish-commit, publish-backfill, bump-checkpoint-seq, bump-checkpoint-epoch}
-use Rattle.header.specs.Locks.{try-acquire, release}
+use Rattle.header_locks.specs.declared.Lock.{Lock}
+use Rattle.header_publish.specs.Publish.{publish-commit, publish-backfill, bump-checkpoint-seq, bump-checkpoint-epoch}
+use Rattle.header_locks.specs.Locks.{try-acquire, release}
 use Rattle.index_find.specs.declared.find.Watermark.{Watermark}
 use Rattle.index_record.specs.Record.{record-frame}
 use Rattle.index_record.specs.Rollback.{rollback-frames}

@@ -1,30 +1,36 @@
--- `c_header::header_calls::wal_release_writer` meets its contract: the walk of `Releases` over its core. Assumes nothing.
+-- `c_header::header_calls::wal_release_writer` meets its contract: the walk of `HeaderWalk` over its core. Assumes nothing.
 use mathlib.Core.Path.{refl}
-use Prim.Native.Nat.{ℕ}
+use mathlib.Core.List.{[], _∷_, List}
+use mir.Syntax.{Width, w32, w64}
 use contract.Running.{givenOf, tables, tablesOf}
 use denote.Triple.Spec.{tripleOf}
 use denote.Triple.Table.{entered, cited}
-use Rattle.wal_types.specs.declared.Header.{Header}
-use Rattle.header.specs.declared.locks.Lock.the-variants.{Writer}
-use Rattle.header.specs.Locks.{release}
-use Rattle.c_header_replies.specs.declared.lock_reply.LockReply.{LockReply}
+use Rattle.header_locks.specs.declared.Lock.the-variants.{Writer}
+use Rattle.header_locks.specs.Locks.{release}
 use Rattle.c_numbers.specs.Mode.{mode-given, with-mode}
 use Rattle.c_header_replies.specs.LockReply.{LockReplied}
-use Rattle.c_header.proofs.Releases.{Core, entry-meets}
 use Rattle.c_header_replies.proofs.lock_reply.release_writer.Symbol as core
 use Rattle.c_header_replies.proofs.lock_reply.release_writer.Met as core-thm
+use Rattle.c_header.proofs.HeaderWalk.{Promise, Core, entry-meets}
+use Rattle.c_header.proofs.Results.{locked, locked-parts}
 use Rattle.c_header.proofs.header_calls.wal_release_writer.Key as key
 use Rattle.c_header.proofs.header_calls.wal_release_writer as entry
 use Rattle.c_header.proofs.header_calls.wal_release_writer.Statement as stated
 use Rattle.c_header.proofs.header_calls.wal_release_writer.Code as code
 
-abbrev Promised : ℕ → Header → ℕ → ℕ → Header → LockReply → Type 0
-Promised mode h local owner h′ r = LockReplied Writer (with-mode (mode-given mode) (λ given. release Writer given owner)) h local h′ r
+abbrev before : List Width
+before = w32 ∷ []
+
+abbrev after : List Width
+after = w64 ∷ w64 ∷ []
+
+abbrev Promised : Promise before after locked
+Promised a h′ r = LockReplied Writer (with-mode (mode-given (a .0)) (λ given. release Writer given (a .1 .1 .1 .0))) (a .1 .0) (a .1 .1 .0) h′ r
 
 pub wal-release-writer-spec : {M : Type 1} → stated.statement M
 unfolding code.routine tablesOf
 wal-release-writer-spec 𝓤 H 𝓜 𝓖 𝓡 =
     entered 𝓤 H (tripleOf 𝓤 H (𝓖 .A) entry.signature (entry.spec 𝓤 H (𝓖 .A) (𝓜 .mem) (𝓡 .run)))
     (tables 𝓤 H 𝓜 𝓡 code.env .C) (tables 𝓤 H 𝓜 𝓡 code.env .Λ) key.name code.function (code.unfolded 𝓤 H 𝓜 𝓡)
-    (entry-meets Promised core.name 𝓤 H (𝓖 .A) (givenOf 𝓤 H 𝓜 𝓖) (tablesOf 𝓤 H 𝓜 (tables 𝓤 H 𝓜 𝓡 code.env))
-    (cited 𝓤 H (Core Promised 𝓤 H (𝓖 .A)) 𝓜 𝓡 code.env core.name core.routine refl (core-thm.met 𝓤 H 𝓜 𝓖 𝓡)))
+    (entry-meets before after locked Promised core.name 𝓤 H (𝓖 .A) (givenOf 𝓤 H 𝓜 𝓖) (locked-parts 𝓤 H (𝓖 .A) (givenOf 𝓤 H 𝓜 𝓖)) (tablesOf 𝓤 H 𝓜 (tables 𝓤 H 𝓜 𝓡 code.env))
+    (cited 𝓤 H (Core before after locked Promised 𝓤 H (𝓖 .A)) 𝓜 𝓡 code.env core.name core.routine refl (core-thm.met 𝓤 H 𝓜 𝓖 𝓡)))

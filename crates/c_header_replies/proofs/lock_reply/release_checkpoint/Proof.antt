@@ -1,5 +1,5 @@
-use Rattle.header.specs.declared.locks.Lock.the-variants.{Checkpoint}
-use Rattle.header.specs.Locks.{release}
+use Rattle.header_locks.specs.declared.Lock.the-variants.{Checkpoint}
+use Rattle.header_locks.specs.Locks.{release}
 use Rattle.c_numbers.specs.Mode.{mode-given, with-mode}
 use Rattle.c_header_replies.proofs.LockReplies.{moded-stores, release-told}
 use borrow.Author.Needs.{needs}

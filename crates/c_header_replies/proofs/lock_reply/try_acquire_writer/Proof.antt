@@ -1,5 +1,5 @@
-use Rattle.header.specs.declared.locks.Lock.the-variants.{Writer}
-use Rattle.header.specs.Locks.{try-acquire}
+use Rattle.header_locks.specs.declared.Lock.the-variants.{Writer}
+use Rattle.header_locks.specs.Locks.{try-acquire}
 use Rattle.c_header_replies.proofs.LockReplies.{acquire-stores, acquire-told}
 use borrow.Author.Needs.{needs}
 use Rattle.c_header_replies.proofs.lock_reply.try_acquire_writer.Statement.{statement}

@@ -1,6 +1,6 @@
 use mathlib.Core.Path.{sym, _∙_}
-use Rattle.header.specs.declared.locks.Lock.the-variants.{Writer}
-use Rattle.header.specs.Locks.{release, release-answer, release-header, release-local}
+use Rattle.header_locks.specs.declared.Lock.the-variants.{Writer}
+use Rattle.header_locks.specs.Locks.{release, release-answer, release-header, release-local}
 use Rattle.c_numbers.specs.Mode.{mode-given}
 use Rattle.c_header_replies.proofs.LockReplies.{unknown-call, given-call}
 use borrow.Author.Needs.{needs}

@@ -1,0 +1,2 @@
+-- The two locks.
+pub mod Locks

@@ -1,0 +1,2 @@
+-- What the publishes and the bumps store to.
+pub mod Stored

@@ -1,0 +1,2 @@
+-- Publishes and bumps.
+pub mod Publish
