@@ -3,13 +3,16 @@ pub mod SlotsAside
 pub mod SlotsCells
 pub mod SlotsStep
 pub mod IndexAside
+pub mod Looks
+pub mod IndexCalls
 pub mod SlotsShared
 pub mod IndexStands
 pub mod ReadersInv
+pub mod ReadersHold
 pub mod IndexSeen
+pub mod HoldLasts
 pub mod IndexAnswers
 pub mod ReadersFloor
-pub mod ReadersHold
 pub mod Demand3
 pub mod Order
 pub mod Trace
