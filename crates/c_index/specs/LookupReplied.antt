@@ -5,7 +5,7 @@ use Prim.Native.Nat.{ℕ}
 use lib.ListN.{length, drop}
 use Rattle.wal_types.specs.declared.Header.{Header}
 use Rattle.wal_types.specs.Memory.{Memory, Process}
-use Rattle.wal_types.specs.Call.{Pair, Call, Answer, refused, ok, flag, value, stored, dropped, kept, frame-found, none, listed, slot-taken, Done, after}
+use Rattle.wal_types.specs.Call.{Pair, Call, Answer, if-listed, Done, after}
 use Rattle.index_find.specs.Index.{index-in}
 use Rattle.c_numbers.specs.Reply.{refusal-number, answer-number, found-number}
 use Rattle.c_index_replies.specs.declared.lookup_reply.FindReply.{FindReply}
@@ -25,17 +25,7 @@ FindReplied call h ps fs hs r =
 
 -- Output cells after an answer: the pairs' pages, or frames, and then the cells as they were; nothing where there is no list.
 abbrev pub written : (Pair → ℕ) → Answer → List ℕ → List ℕ
-written part (listed pairs) old = map part pairs ++ drop (length pairs) old
-written part (refused n) old = old
-written part ok old = old
-written part (flag b) old = old
-written part (value n) old = old
-written part stored old = old
-written part dropped old = old
-written part (kept n) old = old
-written part (frame-found f) old = old
-written part none old = old
-written part (slot-taken i o mark) old = old
+written part a old = if-listed (λ pairs. map part pairs ++ drop (length pairs) old) old a
 
 -- A list's reply and output cells, on any memory with this header and index in it, by any process; nothing else changes.
 pub record ListTold (r : ListReply) (z : Memory) (h : Header) (ps fs hs : List ℕ) (p : Process) (old-pages old-frames new-pages new-frames : List ℕ) (d : Done) : Type 0 where

@@ -2,21 +2,11 @@
 use mathlib.Core.Bool.{true, false}
 use Prim.Native.Nat.{ℕ}
 use lib.ListN.{length}
-use Rattle.wal_types.specs.Call.{Answer, refused, ok, flag, value, stored, dropped, kept, frame-found, none, listed, slot-taken}
+use Rattle.wal_types.specs.Call.{Answer, refused, ok, flag, value, stored, dropped, kept, frame-found, none, listed, slot-taken, if-refused, if-frame}
 
 -- 0 for an accepted call, else the refusal's number
 abbrev pub refusal-number : Answer → ℕ
-refusal-number (refused n) = n
-refusal-number ok = 0
-refusal-number (flag b) = 0
-refusal-number (value n) = 0
-refusal-number stored = 0
-refusal-number dropped = 0
-refusal-number (kept n) = 0
-refusal-number (frame-found f) = 0
-refusal-number none = 0
-refusal-number (listed pairs) = 0
-refusal-number (slot-taken i o mark) = 0
+refusal-number a = if-refused (λ n. n) 0 a
 
 -- the answer itself: 0 after a refusal
 abbrev pub answer-number : Answer → ℕ
@@ -35,14 +25,4 @@ answer-number (slot-taken i o mark) = i
 
 -- 1 where a frame was found
 abbrev pub found-number : Answer → ℕ
-found-number (refused n) = 0
-found-number ok = 0
-found-number (flag b) = 0
-found-number (value n) = 0
-found-number stored = 0
-found-number dropped = 0
-found-number (kept n) = 0
-found-number (frame-found f) = 1
-found-number none = 0
-found-number (listed pairs) = 0
-found-number (slot-taken i o mark) = 0
+found-number a = if-frame (λ f. 1) 0 a

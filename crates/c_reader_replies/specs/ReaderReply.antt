@@ -1,7 +1,7 @@
 -- The reader calls' answers as replies, and settings read from numbers. Assumes nothing.
 use Prim.Native.Nat.{ℕ}
 use Rattle.wal_types.specs.declared.SharedWalOwnershipMode.the-variants.{LinuxOfd}
-use Rattle.wal_types.specs.Call.{Answer, refused, ok, flag, value, stored, dropped, kept, frame-found, none, listed, slot-taken}
+use Rattle.wal_types.specs.Call.{Answer, if-slot}
 use Rattle.c_numbers.specs.declared.Mode.{Mode}
 use Rattle.c_numbers.specs.declared.Mode.the-variants.{Given, Unknown}
 use Rattle.c_numbers.specs.Reply.{refusal-number, answer-number, found-number}
@@ -21,17 +21,8 @@ abbrev pub no-slot : ℕ → ReaderReply
 no-slot number = record { refusal = number; taken = 0; slot = 0; owner = 0; mark = 0 }
 
 abbrev pub reader-reply : Answer → ReaderReply
-reader-reply (refused n) = no-slot n
-reader-reply ok = no-slot 0
-reader-reply (flag b) = no-slot 0
-reader-reply (value n) = no-slot 0
-reader-reply stored = no-slot 0
-reader-reply dropped = no-slot 0
-reader-reply (kept n) = no-slot 0
-reader-reply (frame-found f) = no-slot 0
-reader-reply none = no-slot 0
-reader-reply (listed pairs) = no-slot 0
-reader-reply (slot-taken i o mark) = record { refusal = 0; taken = 1; slot = i; owner = o; mark = mark }
+reader-reply a =
+    if-slot (λ i o mark. record { refusal = 0; taken = 1; slot = i; owner = o; mark = mark }) (no-slot (refusal-number a)) a
 
 abbrev pub no-floor : ℕ → FloorReply
 no-floor number = record { refusal = number; found = 0; mark = 0 }

@@ -29,7 +29,7 @@ use Rattle.index_record.proofs.Placed.{started-blocks, started-len}
 use Rattle.index_record.proofs.Recorded.{record-refused, record-dropped, record-out-of-order, record-first, record-next}
 use Rattle.index_grown.specs.Entries.{entries-of, entries, entries-found}
 use Rattle.index_grown.specs.Grown.{FramesRise, Grown}
-use Rattle.index_grown.specs.Calls.{RecordLeaves, SameReaders}
+use Rattle.index_grown.specs.Calls.{RecordLeaves, left-stored, left-dropped, left-refused, SameReaders}
 use Rattle.index_grown.proofs.Entries.{entries-stored, entries-each, rises-to}
 use Rattle.index_grown.proofs.Lists.{Each}
 use Rattle.index_grown.proofs.Blocks.{built-set-past, with-last, full-blocks}
@@ -201,11 +201,11 @@ module _ (capacity b page frame : ℕ) (grow : Bool) (m : Memory) (p : Process) 
       (λ g passed e o. entry-grown g e passed o)
 
   -- THE ENTRIES: stored, the pair comes at the end of those that it found; dropped, it leaves those; refused, nothing changes
-  pub record-leaves : RecordLeaves page frame m (call-done .answer) (call-done .memory)
+  pub record-leaves : RecordLeaves page frame m (call-done .memory) (call-done .answer)
   record-leaves =
-      record-cases (λ d. RecordLeaves page frame m (d .answer) (d .memory)) (λ n i. refl)
-      (λ passed e. started-entries frame h (m .pages) (m .frames))
-      (λ g passed e o. entry-entries g e passed o)
+      record-cases (λ d. RecordLeaves page frame m (d .memory) (d .answer)) (λ n i. left-refused refl)
+      (λ passed e. left-dropped (started-entries frame h (m .pages) (m .frames)))
+      (λ g passed e o. left-stored (entry-entries g e passed o))
 
   -- the published frame and the reader slots stay
   pub record-elsewhere : SameReaders m (call-done .memory)

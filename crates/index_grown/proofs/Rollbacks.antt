@@ -19,7 +19,7 @@ use Rattle.index_find.proofs.Blocks.{length-with}
 use Rattle.index_record.proofs.RolledBack.{rollback-refused, rollback-none, rollback-even, rollback-odd}
 use Rattle.index_grown.specs.Entries.{entries-of, entries, taken-off, up-to}
 use Rattle.index_grown.specs.Grown.{BlocksBuilt, Grown}
-use Rattle.index_grown.specs.Calls.{RollbackLeaves, SameReaders}
+use Rattle.index_grown.specs.Calls.{RollbackLeaves, left-kept, left-whole, SameReaders}
 use Rattle.index_grown.proofs.Entries.{entries-kept, kept-le, rise-fewer, taken-up-to}
 use Rattle.index_grown.proofs.Blocks.{with-last, full-blocks, fewer-blocks}
 
@@ -119,12 +119,12 @@ module _ (capacity b bound : ℕ) (m : Memory) (p : Process) (grown : Grown capa
   rollback-grown = rollback-cases (λ d. Grown capacity b (d .memory)) (λ i z e. grown) (λ e. grown) (λ hash l k. kept-grown hash k)
 
   -- THE ENTRIES: those above the bound are taken off the end
-  pub rollback-leaves : RollbackLeaves bound m (call-done .answer) (call-done .memory)
+  pub rollback-leaves : RollbackLeaves bound m (call-done .memory) (call-done .answer)
   rollback-leaves =
       let taken = entries-kept (m .pages) (m .frames) bound (h .«frame_index_len») in
-      rollback-cases (λ d. RollbackLeaves bound m (d .answer) (d .memory)) (λ i z e. refl)
-      (λ e. (ap (λ (i : ℕ). entries-of i (m .pages) (m .frames)) (sym e) ∙ taken, e))
-      (λ hash l k. (taken, refl))
+      rollback-cases (λ d. RollbackLeaves bound m (d .memory) (d .answer)) (λ i z e. left-whole refl)
+      (λ e. left-kept (ap (λ (i : ℕ). entries-of i (m .pages) (m .frames)) (sym e) ∙ taken) e)
+      (λ hash l k. left-kept taken refl)
 
   -- the published frame and the reader slots stay
   pub rollback-elsewhere : SameReaders m (call-done .memory)

@@ -10,7 +10,7 @@ use Rattle.wal_types.specs.declared.SharedWalOwnershipMode.{SharedWalOwnershipM
 use Rattle.wal_types.specs.Memory.{Memory, Process}
 use Rattle.wal_types.specs.Store.{Store, apply}
 use Rattle.wal_types.specs.Refusal.{lowest}
-use Rattle.wal_types.specs.Call.{Answer, refused, ok, flag, value, stored, dropped, kept, frame-found, none, listed, slot-taken, Outcome, accepted-or, Done, done, after}
+use Rattle.wal_types.specs.Call.{Answer, refused, value, if-refused, if-frame, Outcome, accepted-or, Done, done, after}
 use Rattle.reader_probe.specs.declared.live.Floor.{Floor}
 use Rattle.reader_probe.specs.declared.live.Floor.the-variants.{Mark, NoMark}
 use Rattle.reader_floor.specs.declared.floor.MinFrame.{MinFrame}
@@ -21,26 +21,16 @@ use Rattle.reader_floor.specs.Floor.{floor-of, floor-answer, probe-tests, recla
 use Rattle.reader_limit.specs.Limit.{limit-of, copy-back-limit, limit-told, LimitCall}
 
 -- the limit's answer, by the floor's
-abbrev by-answer : ℕ → Answer → Answer
-by-answer published (frame-found f) = value (min published f)
-by-answer published none = value published
-by-answer published (refused k) = refused k
-by-answer published ok = ok
-by-answer published (flag t) = flag t
-by-answer published (value k) = value k
-by-answer published stored = stored
-by-answer published dropped = dropped
-by-answer published (kept k) = kept k
-by-answer published (listed l) = listed l
-by-answer published (slot-taken i o k) = slot-taken i o k
+abbrev by-floor-answer : ℕ → Answer → Answer
+by-floor-answer published a = if-refused refused (value (if-frame (λ f. min published f) published a)) a
 
-told : (published : ℕ) (r : MinFrame) → by-answer published (min-frame-answer r) ≡ limit-told published r
+told : (published : ℕ) (r : MinFrame) → by-floor-answer published (min-frame-answer r) ≡ limit-told published r
 told published (Least mark) = refl
 told published NoFloor = refl
 told published (NotTold k) = refl
 
 abbrev with-answer : ℕ → Done → Done
-with-answer published d = done (by-answer published (d .answer)) (d .memory) (d .process)
+with-answer published d = done (by-floor-answer published (d .answer)) (d .memory) (d .process)
 
 -- both calls have the same tests and the same stores
 by-floor : (n : ℕ) (mode : SharedWalOwnershipMode) (bytes : List ℕ) (m : Memory) (p : Process) → after (copy-back-limit n mode bytes) m p ≡ with-answer (m .header .«max_frame») (after (min-active-reader-frame n mode bytes) m p)
@@ -69,7 +59,7 @@ pub limit-called : (n : ℕ) (mode : SharedWalOwnershipMode) (bytes b f o l b′
     → (published : ℕ) (a : Answer) → a ≡ limit-told published r → LimitCall (copy-back-limit n mode bytes) published b f o l a b′ f′ o′
 limit-called n mode bytes b f o l b′ f′ o′ r h published a e z p is =
     by-floor n mode bytes (slots-in z b f o) (locals-in p l)
-    ∙ (ap (with-answer (z .header .«max_frame»)) (h z p) ∙ ap (λ (x : Answer). done x (slots-in z b′ f′ o′) (locals-in p l)) (ap (λ (k : ℕ). by-answer k (min-frame-answer r)) is ∙ (told published r ∙ sym e)))
+    ∙ (ap (with-answer (z .header .«max_frame»)) (h z p) ∙ ap (λ (x : Answer). done x (slots-in z b′ f′ o′) (locals-in p l)) (ap (λ (k : ℕ). by-floor-answer k (min-frame-answer r)) is ∙ (told published r ∙ sym e)))
 
 -- an answer of the floor that is neither a floor nor a refusal
 pub no-floor : (r : MinFrame) → OneOf (1 ∷ 2 ∷ []) (tagOf MinFrameType.the-type r) → OneOf (0 ∷ 1 ∷ []) (tagOf MinFrameType.the-type r) → r ≡ NoFloor

@@ -12,7 +12,7 @@ use Rattle.wal_types.specs.declared.Header.{Header}
 use Rattle.wal_types.specs.declared.SharedWalOwnershipMode.the-variants.{LinuxOfd}
 use Rattle.wal_types.specs.Settings.{unused}
 use Rattle.wal_types.specs.Memory.{Memory, Process, with-header, with-local-readers, with-registry, no-mark, blank-process, slot-bit, bit-at}
-use Rattle.wal_types.specs.Call.{Pair, pair, Answer, refused, ok, value, stored, kept, frame-found, listed, slot-taken, Done, done, after}
+use Rattle.wal_types.specs.Call.{Pair, pair, Answer, refused, ok, value, stored, kept, frame-found, listed, slot-taken, Refused, accepted, Done, done, after}
 use Rattle.reader_bitmap.specs.Bit.{clear-bit}
 use Rattle.header_publish.specs.Publish.{publish-commit}
 use Rattle.index_end.specs.declared.place.Place.the-variants.{AtEnd}
@@ -45,9 +45,9 @@ use Rattle.index_grown.proofs.Answers.{grown-accepted, find-done, list-done}
 use Rattle.index_grown.proofs.Listed.{list-gives}
 use Rattle.index_grown.proofs.Unique.{listed-once}
 use Rattle.index_grown.proofs.Views.{view-listed}
-use Rattle.sequence.specs.Sequence.{find-op, World, Event, answer-of, next, run, FreshWorld, Throughout}
+use Rattle.sequence.specs.Sequence.{find-op, rollback-op, look-op, index-op, World, Event, answer-of, next, run, FreshWorld, Throughout}
 use Rattle.sequence.specs.Book.{Book, empty-book, book-after, InPairs, here, there}
-use Rattle.sequence.specs.Hold.{accepted, holders-after, direct, shared, begins-direct, begins-shared, SharedLasts, EndsDirect, KeepsAbove, SameSlot, LeavesSlot}
+use Rattle.sequence.specs.Hold.{holders-after, direct, shared, begins-direct, begins-shared, SharedLasts, EndsDirect, RollsBack, rolls-back, KeepsAbove, SameSlot, LeavesSlot}
 use Rattle.sequence.specs.Statement.{at-now, Premises, Demand3}
 use Rattle.sequence.specs.Example.{small, zeros, fresh-memory, fresh-process, fresh-world, reader, before, begin, during, Held, answered, lookup, listing, floor, limit, begin-shared, during-shared, own-floor, Example}
 use Rattle.sequence.proofs.IndexStands.{fresh-stands, run-stands}
@@ -356,13 +356,16 @@ lasts-through : Throughout (λ e v. EndsDirect small 0 0 3 e v → ⊥) small du
 unfolding trace-during
 lasts-through =
     throughout small (λ e v. EndsDirect small 0 0 3 e v → ⊥) (λ e v d. EndsDirect small 0 0 3 e v → ⊥) (λ e v d q a. a) trace-during
-    ((λ x. let z : _≡_ {A = ℕ} 1 0 = x .0 in omega arith), ((λ x. x .1), ((λ x. x .1), ((λ x. x .1), ((λ x. x .1), ((λ x. x .1), tt))))))
+    ((λ x. let z : _≡_ {A = ℕ} 1 0 = x .0 in omega arith), ((λ x. elim (x .1) [ ]), ((λ x. elim (x .1) [ ]), ((λ x. elim (x .1) [ ]), ((λ x. elim (x .1) [ ]), ((λ x. elim (x .1) [ ]), tt))))))
+
+at-five : (bound : ℕ) → RollsBack (index-op (rollback-op 5)) bound → 3 ≤ bound
+at-five bound rolls-back = omega arith
 
 above-through : Throughout (KeepsAbove small 3) small during w5
 unfolding trace-during
 above-through =
     throughout small (KeepsAbove small 3) (λ e v d. KeepsAbove small 3 e v) (λ e v d q a. a) trace-during
-    (tt, (tt, (tt, (tt, ((λ a. omega arith), (tt, tt))))))
+    ((λ b r. elim r [ ]), ((λ b r. elim r [ ]), ((λ b r. elim r [ ]), ((λ b r. elim r [ ]), ((λ b r a. at-five b r), ((λ b r. elim r [ ]), tt))))))
 
 module _ (now : Event) (d : Done) (q : ComesTo small now w11 d) where
   left-through : SlotStays now w11 d → Throughout (LeavesSlot small 0 0) small (during ++ (now ∷ [])) w5
@@ -500,7 +503,7 @@ shared-left-through =
 
 shared-above-through : Throughout (KeepsAbove small 3) small during-shared s5
 unfolding trace-shared
-shared-above-through = throughout small (KeepsAbove small 3) (λ e v d. KeepsAbove small 3 e v) (λ e v d q a. a) trace-shared (tt, (tt, tt))
+shared-above-through = throughout small (KeepsAbove small 3) (λ e v d. KeepsAbove small 3 e v) (λ e v d q a. a) trace-shared ((λ b r. elim r [ ]), ((λ b r. elim r [ ]), tt))
 
 shared-holds : Premises small 1 fresh-world before begin-shared during-shared own-floor shared 0 3
 shared-holds =
@@ -520,7 +523,7 @@ pub example : Example
 example =
     record {
       calls-answer = trace-answers small trace-all;
-      newest-is-5 = gives (reader (find-op 7 1 5 NoWatermark)) _ newest;
+      newest-is-5 = gives (reader (look-op (find-op 7 1 5 NoWatermark))) _ newest;
       lookup-held = held lookup _ looked-up (λ x. absurd (x refl));
       lookup-gives = gives lookup _ looked-up;
       list-held = held listing _ listed-now (λ x. absurd (x refl));
@@ -538,23 +541,23 @@ example =
 pub lookup-by-demand-3 : answered lookup ≡ frame-found 3
 unfolding Demand3 greatest
 lookup-by-demand-3 =
-    demand-3 small 1 fresh-world before begin during lookup direct 0 3 (example .lookup-held) (omega arith) (subst accepted (sym (example .lookup-gives)) tt)
+    demand-3 small 1 fresh-world before begin during lookup direct 0 3 (example .lookup-held) .lookup-owed 7 1 3 refl (omega arith) (subst accepted (sym (example .lookup-gives)) (λ r. elim r [ ]))
     ∙ ap (λ (b : Book). lookup-answer (greatest (b .pairs) 7 1 3)) book-begins
 
 pub list-by-demand-3 : answered listing ≡ listed (pair 7 3 ∷ pair 8199 2 ∷ [])
 unfolding Demand3
 list-by-demand-3 =
-    let owed = demand-3 small 1 fresh-world before begin during listing direct 0 3 (example .list-held) (omega arith) (subst accepted (sym (example .list-gives)) tt) in
+    let owed = demand-3 small 1 fresh-world before begin during listing direct 0 3 (example .list-held) .list-owed 1 3 8 8 refl (omega arith) (subst accepted (sym (example .list-gives)) (λ r. elim r [ ])) in
     owed .1 ∙ ap listed (listed-once three 1 3 (owed .0) _ (subst (λ (b : Book). IsListOf (b .pairs) 1 3 (owed .0)) book-begins (owed .2)) is-three)
 
 pub floor-by-demand-3 : (f : ℕ) × (answered floor ≡ frame-found f) × (f ≤ 3)
 unfolding Demand3
-floor-by-demand-3 = demand-3 small 1 fresh-world before begin during floor direct 0 3 (example .floor-held) (subst accepted (sym (example .floor-gives)) tt)
+floor-by-demand-3 = demand-3 small 1 fresh-world before begin during floor direct 0 3 (example .floor-held) .floor-owed _ refl (subst accepted (sym (example .floor-gives)) (λ r. elim r [ ]))
 
 pub limit-by-demand-3 : (l : ℕ) × (answered limit ≡ value l) × (l ≤ 3)
 unfolding Demand3
-limit-by-demand-3 = demand-3 small 1 fresh-world before begin during limit direct 0 3 (example .limit-held) (subst accepted (sym (example .limit-gives)) tt)
+limit-by-demand-3 = demand-3 small 1 fresh-world before begin during limit direct 0 3 (example .limit-held) .limit-owed _ refl (subst accepted (sym (example .limit-gives)) (λ r. elim r [ ]))
 
 pub shared-floor-by-demand-3 : (f : ℕ) × (answer-of small own-floor (at-now small 1 fresh-world before begin-shared during-shared own-floor shared 0 3) ≡ frame-found f) × (f ≤ 3)
 unfolding Demand3
-shared-floor-by-demand-3 = demand-3 small 1 fresh-world before begin-shared during-shared own-floor shared 0 3 (example .shared-held) (subst accepted (sym (example .shared-floor-gives)) tt)
+shared-floor-by-demand-3 = demand-3 small 1 fresh-world before begin-shared during-shared own-floor shared 0 3 (example .shared-held) .floor-owed _ refl (subst accepted (sym (example .shared-floor-gives)) (λ r. elim r [ ]))

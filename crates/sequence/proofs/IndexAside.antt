@@ -1,29 +1,19 @@
 -- Calls that leave the index and the published frame alone: none of their stores is to one of these cells. All calls but record, rollback and commit are such. Assumes nothing.
 use mathlib.Core.Path.{_≡_, refl, _∙_}
 use mathlib.Core.Bool.{Bool, true, false, false≢true, not, _&&_}
-use mathlib.Core.List.{List}
 use Prim.Native.Nat.{ℕ}
 use lib.Dec.{eqb}
-use Rattle.wal_types.specs.declared.SharedWalOwnershipMode.{SharedWalOwnershipMode}
-use Rattle.wal_types.specs.Memory.{Memory, Process, HeaderCell, place, frame-index-blocks, frame-index-len, max-frame, Store, to-header, to-index, to-slots, put}
+use Rattle.wal_types.specs.Memory.{Memory, Process, HeaderCell, place, frame-index-blocks, frame-index-len, max-frame, SlotPart, Store, to-header, to-index, to-slots, put}
 use Rattle.wal_types.specs.Call.{Call, after}
-use Rattle.wal_types.proofs.Every.{Every, EveryOfCall, every-of-reads, by-every}
+use Rattle.wal_types.proofs.Every.{EveryOfCall, every-of-reads, by-every}
 use Rattle.header_locks.specs.declared.Lock.{Lock}
 use Rattle.header_locks.specs.declared.Lock.the-variants.{Writer, Checkpoint}
-use Rattle.header_publish.specs.Publish.{publish-backfill, bump-checkpoint-seq, bump-checkpoint-epoch}
-use Rattle.header_locks.specs.Locks.{owner-cell, try-acquire, release}
+use Rattle.header_locks.specs.Locks.{owner-cell}
 use Rattle.header_locks.proofs.Stored.{acquire-stores, release-stores as unlock-stores}
 use Rattle.header_publish.proofs.Stored.{backfill-stores, seq-stores, epoch-stores}
-use Rattle.index_find.specs.declared.find.Watermark.{Watermark}
-use Rattle.index_find.specs.Find.{find-frame}
-use Rattle.list_latest.specs.Latest.{iter-latest-frames}
-use Rattle.reader_register.specs.Register.{register-reader}
-use Rattle.reader_moves.specs.Update.{update-reader, unregister-reader}
-use Rattle.reader_floor.specs.Floor.{min-active-reader-frame, has-active-db-file-reader}
-use Rattle.reader_limit.specs.Limit.{copy-back-limit}
-use Rattle.reader_shared.specs.Shared.{register-reader-for-snapshot, unregister-reader-for-snapshot}
 use Rattle.index_grown.specs.Grown.{SameIndex}
-use Rattle.sequence.proofs.ReadOnly.{find-reads, list-reads}
+use Rattle.sequence.specs.Sequence.{Settings, LookOp, look, HeaderOp, acquire-op, unlock-op, backfill-op, seq-op, epoch-op, on-header, ProbeOp, floor-op, limit-op, db-reader-op, probe, SlotOp, register-op, move-op, release-op, on-slot, SharedOp, share-op, unshare-op, on-registry}
+use Rattle.sequence.proofs.Looks.{only-looks}
 use Rattle.sequence.proofs.ReaderStores.{register-stores, share-stores, move-stores, release-stores, unshare-stores, floor-stores, limit-stores, db-reader-stores}
 
 -- length, blocks, pages, frames and hash, and the published frame, are the same
@@ -74,54 +64,35 @@ LeavesIndex = EveryOfCall Beside
 pub untouched-by : (call : Call) → LeavesIndex call → (m : Memory) (p : Process) → Untouched m (after call m p .memory)
 untouched-by call x m p = by-every Beside Untouched untouched-itself untouched-twice put-beside (call m p .stores) m (x m p)
 
--- reading calls
-pub find-beside : (capacity b page low high : ℕ) (w : Watermark) → LeavesIndex (find-frame capacity b page low high w)
-find-beside capacity b page low high w = every-of-reads Beside (find-frame capacity b page low high w) (find-reads capacity b page low high w)
+-- THE CALLS of each family that are such
+pub look-beside : (s : Settings) (o : LookOp) → LeavesIndex (look s o)
+look-beside s o = every-of-reads Beside (look s o) (only-looks s o)
 
-pub list-beside : (capacity b low high room-pages room-frames : ℕ) → LeavesIndex (iter-latest-frames capacity b low high room-pages room-frames)
-list-beside capacity b low high room-pages room-frames = every-of-reads Beside (iter-latest-frames capacity b low high room-pages room-frames) (list-reads capacity b low high room-pages room-frames)
-
--- calls on readers
-pub register-beside : (n : ℕ) (mode : SharedWalOwnershipMode) (owner mark : ℕ) (bytes : List ℕ) → LeavesIndex (register-reader n mode owner mark bytes)
-register-beside = register-stores Beside (λ k i v. tt)
-
-pub share-beside : (n : ℕ) (mode : SharedWalOwnershipMode) (owner mark : ℕ) (bytes : List ℕ) → LeavesIndex (register-reader-for-snapshot n mode owner mark bytes)
-share-beside = share-stores Beside (λ k i v. tt)
-
-pub move-beside : (n slot owner mark : ℕ) → LeavesIndex (update-reader n slot owner mark)
-move-beside = move-stores Beside (λ k i v. tt)
-
-pub release-beside : (n : ℕ) (mode : SharedWalOwnershipMode) (slot owner : ℕ) → LeavesIndex (unregister-reader n mode slot owner)
-release-beside = release-stores Beside (λ k i v. tt)
-
-pub unshare-beside : (n : ℕ) (mode : SharedWalOwnershipMode) (mark slot owner : ℕ) → LeavesIndex (unregister-reader-for-snapshot n mode mark slot owner)
-unshare-beside = unshare-stores Beside (λ k i v. tt)
-
-pub floor-beside : (n : ℕ) (mode : SharedWalOwnershipMode) (bytes : List ℕ) → LeavesIndex (min-active-reader-frame n mode bytes)
-floor-beside = floor-stores Beside (λ k i v. tt)
-
-pub limit-beside : (n : ℕ) (mode : SharedWalOwnershipMode) (bytes : List ℕ) → LeavesIndex (copy-back-limit n mode bytes)
-limit-beside = limit-stores Beside (λ k i v. tt)
-
-pub db-reader-beside : (n : ℕ) (mode : SharedWalOwnershipMode) (bytes : List ℕ) → LeavesIndex (has-active-db-file-reader n mode bytes)
-db-reader-beside = db-reader-stores Beside (λ k i v. tt)
-
--- calls on the header
 owner-beside : (lock : Lock) (v : ℕ) → Beside (to-header (owner-cell lock) v)
 owner-beside Writer v = refl
 owner-beside Checkpoint v = refl
 
-pub acquire-beside : (lock : Lock) (owner byte : ℕ) → LeavesIndex (try-acquire lock owner byte)
-acquire-beside lock = acquire-stores Beside lock (owner-beside lock)
+pub header-beside : (s : Settings) (o : HeaderOp) → LeavesIndex (on-header s o)
+header-beside s (acquire-op lock owner byte) = acquire-stores Beside lock (owner-beside lock) owner byte
+header-beside s (unlock-op lock owner) = unlock-stores Beside lock (owner-beside lock) (s .mode) owner
+header-beside s (backfill-op n) = backfill-stores Beside (λ v. refl) n
+header-beside s seq-op = seq-stores Beside (λ v. refl)
+header-beside s epoch-op = epoch-stores Beside (λ v. refl)
 
-pub unlock-beside : (lock : Lock) (mode : SharedWalOwnershipMode) (owner : ℕ) → LeavesIndex (release lock mode owner)
-unlock-beside lock = unlock-stores Beside lock (owner-beside lock)
+-- those on readers store to the slots' lists alone
+beside-slots : (k : SlotPart) (i v : ℕ) → Beside (to-slots k i v)
+beside-slots k i v = tt
 
-pub backfill-beside : (n : ℕ) → LeavesIndex (publish-backfill n)
-backfill-beside = backfill-stores Beside (λ v. refl)
+pub probe-beside : (s : Settings) (o : ProbeOp) → LeavesIndex (probe s o)
+probe-beside s (floor-op bytes) = floor-stores Beside beside-slots (s .slots) (s .mode) bytes
+probe-beside s (limit-op bytes) = limit-stores Beside beside-slots (s .slots) (s .mode) bytes
+probe-beside s (db-reader-op bytes) = db-reader-stores Beside beside-slots (s .slots) (s .mode) bytes
 
-pub seq-beside : LeavesIndex bump-checkpoint-seq
-seq-beside = seq-stores Beside (λ v. refl)
+pub slot-beside : (s : Settings) (o : SlotOp) → LeavesIndex (on-slot s o)
+slot-beside s (register-op owner mark bytes) = register-stores Beside beside-slots (s .slots) (s .mode) owner mark bytes
+slot-beside s (move-op slot owner mark) = move-stores Beside beside-slots (s .slots) slot owner mark
+slot-beside s (release-op slot owner) = release-stores Beside beside-slots (s .slots) (s .mode) slot owner
 
-pub epoch-beside : LeavesIndex bump-checkpoint-epoch
-epoch-beside = epoch-stores Beside (λ v. refl)
+pub shared-beside : (s : Settings) (o : SharedOp) → LeavesIndex (on-registry s o)
+shared-beside s (share-op owner mark bytes) = share-stores Beside beside-slots (s .slots) (s .mode) owner mark bytes
+shared-beside s (unshare-op mark slot owner) = unshare-stores Beside beside-slots (s .slots) (s .mode) mark slot owner

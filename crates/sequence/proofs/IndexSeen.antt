@@ -1,14 +1,14 @@
--- While a hold at a mark lasts, the index up to that mark stays as it was. Assumes nothing.
+-- While a hold at a mark stands, each call leaves the index up to that mark as it was. Assumes nothing.
 use mathlib.Core.Path.{_≡_, refl, sym, _∙_, ap, subst}
 use mathlib.Core.Bool.{Bool, true, false, _&&_}
-use mathlib.Core.List.{List, [], _∷_, List·Memᴰ, List·Memᴰ·head, List·Memᴰ·tail}
+use mathlib.Core.List.{List, List·Memᴰ, List·Memᴰ·head, List·Memᴰ·tail}
 use mathlib.Core.Logic.{_⊎_, inl, inr}
 use Prim.Native.Nat.{ℕ, _≤_}
 use native.Mathlib.Omega.{arith}
 use lib.Dec.{eqb}
 use borrow.Author.Tests.{ne-eqb}
 use Rattle.wal_types.specs.Memory.{Memory, Process}
-use Rattle.wal_types.specs.Call.{Pair, Answer, refused, ok, flag, value, stored, dropped, kept, frame-found, none, listed, slot-taken, Done, after}
+use Rattle.wal_types.specs.Call.{Pair, Answer, accepted, Done, after}
 use Rattle.index_end.specs.Place.{resets}
 use Rattle.index_record.specs.Record.{record-frame}
 use Rattle.index_record.specs.Rollback.{rollback-frames}
@@ -16,17 +16,19 @@ use Rattle.index_record.proofs.Recorded.{record-refused}
 use Rattle.index_record.proofs.RolledBack.{rollback-refused}
 use Rattle.index_grown.specs.Entries.{entries, up-to}
 use Rattle.index_grown.specs.Grown.{Grown, SameIndex}
-use Rattle.index_grown.specs.Calls.{RollbackLeaves}
+use Rattle.index_grown.specs.Calls.{RollbackLeaves, left-kept, left-whole}
 use Rattle.index_grown.proofs.Starts.{same-entries}
 use Rattle.index_grown.proofs.Lists.{up-to-keeps, up-to-only}
 use Rattle.index_grown.proofs.Records.{record-elsewhere}
 use Rattle.index_grown.proofs.Rollbacks.{rollback-leaves, rollback-elsewhere}
 use Rattle.index_grown.proofs.Views.{SameView, record-view, rollback-view}
-use Rattle.sequence.specs.Sequence.{Settings, Op, perform, record-op, rollback-op, find-op, list-op, register-op, share-op, move-op, release-op, unshare-op, floor-op, limit-op, db-reader-op, acquire-op, unlock-op, commit-op, backfill-op, seq-op, epoch-op, World, Event, answer-of, next, run, Throughout}
-use Rattle.sequence.specs.Book.{Book, entered, InPairs, here, there}
-use Rattle.sequence.specs.Hold.{accepted, KeepsAbove}
-use Rattle.sequence.proofs.IndexAside.{Untouched, untouched-by, find-beside, list-beside, register-beside, share-beside, move-beside, release-beside, unshare-beside, floor-beside, limit-beside, db-reader-beside, acquire-beside, unlock-beside, backfill-beside, seq-beside, epoch-beside}
-use Rattle.sequence.proofs.IndexStands.{refusal-of, Stands, commit-raises, next-stands}
+use Rattle.sequence.specs.Sequence.{Settings, Op, perform, World, Event, next}
+use Rattle.sequence.specs.Book.{Book, InPairs, here, there}
+use Rattle.sequence.specs.Hold.{rolls-back, KeepsAbove}
+use Rattle.sequence.proofs.IndexAside.{Untouched, untouched-by}
+use Rattle.sequence.proofs.IndexCalls.{ToIndex, records, rolls, publishes, passes-by, to-index}
+use Rattle.sequence.proofs.IndexStands.{refusal-of, Stands, commit-raises}
+use Rattle.sequence.proofs.ReadersHold.{Pinned}
 
 -- A memory's entries have these pairs up to the mark, and the mark is published.
 pub record Seen (mark : ℕ) (es : List Pair) (m : Memory) : Type 0 where
@@ -44,8 +46,11 @@ keeps-itself mark m = record { view-kept = refl; published-kept = omega arith }
 index-keeps : (mark : ℕ) (m m′ : Memory) → SameIndex m m′ → m .header .«max_frame» ≤ m′ .header .«max_frame» → Keeps mark m m′
 index-keeps mark m m′ same l = record { view-kept = ap (up-to mark) (same-entries m m′ same); published-kept = l }
 
-untouched-keeps : (mark : ℕ) (m m′ : Memory) → Untouched m m′ → Keeps mark m m′
+pub untouched-keeps : (mark : ℕ) (m m′ : Memory) → Untouched m m′ → Keeps mark m m′
 untouched-keeps mark m m′ u = let e = u .published-same in index-keeps mark m m′ (u .index-same) (omega arith)
+
+pub still-seen : (mark : ℕ) (es : List Pair) (m m′ : Memory) → Seen mark es m → Keeps mark m m′ → Seen mark es m′
+still-seen mark es m m′ seen k = record { same-view = k .view-kept ∙ seen .same-view; mark-published = omega (arith, seen .mark-published, k .published-kept) }
 
 -- a pair with the mark as its frame
 pub record AtMark (mark : ℕ) (es : List Pair) : Type 0 where
@@ -98,18 +103,9 @@ module _ (s : Settings) (mark : ℕ) (least : 1 ≤ mark) (es : List Pair) (at :
       call-done : Done
       call-done = after (rollback-frames (s .capacity) (s .max-blocks) bound) m p
 
-      by-answer : Grown (s .capacity) (s .max-blocks) m → (a : Answer) → RollbackLeaves bound m a (call-done .memory) → (accepted a → mark ≤ bound) → SameView mark (entries m) (entries (call-done .memory))
-      by-answer g (kept n) leaves l = rollback-view (s .capacity) (s .max-blocks) mark m p g bound (l tt)
-      by-answer g (refused n) leaves l = ap (λ (x : Memory). up-to mark (entries x)) leaves
-      by-answer g stored leaves l = absurd leaves
-      by-answer g dropped leaves l = absurd leaves
-      by-answer g ok leaves l = absurd leaves
-      by-answer g (flag t) leaves l = absurd leaves
-      by-answer g (value n) leaves l = absurd leaves
-      by-answer g (frame-found f) leaves l = absurd leaves
-      by-answer g none leaves l = absurd leaves
-      by-answer g (listed k) leaves l = absurd leaves
-      by-answer g (slot-taken i o k) leaves l = absurd leaves
+      by-answer : Grown (s .capacity) (s .max-blocks) m → (a : Answer) → RollbackLeaves bound m (call-done .memory) a → (accepted a → mark ≤ bound) → SameView mark (entries m) (entries (call-done .memory))
+      by-answer g a (left-kept leaves counted) l = rollback-view (s .capacity) (s .max-blocks) mark m p g bound (l (λ r. elim r [ ]))
+      by-answer g a (left-whole same) l = ap (λ (x : Memory). up-to mark (entries x)) same
 
       go : Grown (s .capacity) (s .max-blocks) m ⊎ (refusal-of s m ≡ 0 → ⊥) → Keeps mark m (call-done .memory)
       go (inl g) =
@@ -119,45 +115,21 @@ module _ (s : Settings) (mark : ℕ) (least : 1 ≤ mark) (es : List Pair) (at :
           subst (λ (d : Done). Keeps mark m (d .memory))
           (sym (rollback-refused (s .capacity) (s .max-blocks) bound m (m .header) (m .pages) (m .frames) (m .hash) p (refusal-of s m) refl shut)) (keeps-itself mark m)
 
-  -- EACH CALL of a hold
-  module _ (w : World) (b : Book) (stands : Stands s (w .memory) b) (seen : Seen mark es (w .memory)) (who : ℕ) where
-    abbrev m : Memory
-    m = w .memory
+  -- EACH CALL made while a hold stands at the mark
+  pub next-keeps : (who i : ℕ) (e : Event) (w : World) (b : Book) → Stands s (w .memory) b → Seen mark es (w .memory) → Pinned s who i mark e w → KeepsAbove s mark e w → Keeps mark (w .memory) (next s e w .memory)
+  next-keeps who i e w b stands seen pinned above = go (e .op) above (to-index s (e .op))
+    where
+      m : Memory
+      m = w .memory
 
-    abbrev p : Process
-    p = w .processes who
+      p : Process
+      p = w .processes (e .who)
 
-    op-keeps : (op : Op) → KeepsAbove s mark (record { who = who; op = op }) w → Keeps mark m (next s (record { who = who; op = op }) w .memory)
-    op-keeps (record-op page frame grow) above = record-keeps page frame grow m p b stands seen
-    op-keeps (rollback-op bound) above = rollback-keeps bound m p b stands above
-    op-keeps (commit-op frame c1 c2 count) above =
-        let r = commit-raises frame c1 c2 count m p in
-        let e = r .published-raised in
-        index-keeps mark m _ (r .index-same) (omega arith)
-    op-keeps (find-op page low high x) above = untouched-keeps mark m _ (untouched-by (perform s (find-op page low high x)) (find-beside _ _ _ _ _ _) m _)
-    op-keeps (list-op low high room-pages room-frames) above = untouched-keeps mark m _ (untouched-by (perform s (list-op low high room-pages room-frames)) (list-beside _ _ _ _ _ _) m _)
-    op-keeps (register-op owner k bytes) above = untouched-keeps mark m _ (untouched-by (perform s (register-op owner k bytes)) (register-beside _ _ _ _ _) m _)
-    op-keeps (share-op owner k bytes) above = untouched-keeps mark m _ (untouched-by (perform s (share-op owner k bytes)) (share-beside _ _ _ _ _) m _)
-    op-keeps (move-op slot owner k) above = untouched-keeps mark m _ (untouched-by (perform s (move-op slot owner k)) (move-beside _ _ _ _) m _)
-    op-keeps (release-op slot owner) above = untouched-keeps mark m _ (untouched-by (perform s (release-op slot owner)) (release-beside _ _ _ _) m _)
-    op-keeps (unshare-op k slot owner) above = untouched-keeps mark m _ (untouched-by (perform s (unshare-op k slot owner)) (unshare-beside _ _ _ _ _) m _)
-    op-keeps (floor-op bytes) above = untouched-keeps mark m _ (untouched-by (perform s (floor-op bytes)) (floor-beside _ _ _) m _)
-    op-keeps (limit-op bytes) above = untouched-keeps mark m _ (untouched-by (perform s (limit-op bytes)) (limit-beside _ _ _) m _)
-    op-keeps (db-reader-op bytes) above = untouched-keeps mark m _ (untouched-by (perform s (db-reader-op bytes)) (db-reader-beside _ _ _) m _)
-    op-keeps (acquire-op lock owner byte) above = untouched-keeps mark m _ (untouched-by (perform s (acquire-op lock owner byte)) (acquire-beside _ _ _) m _)
-    op-keeps (unlock-op lock owner) above = untouched-keeps mark m _ (untouched-by (perform s (unlock-op lock owner)) (unlock-beside _ _ _) m _)
-    op-keeps (backfill-op n) above = untouched-keeps mark m _ (untouched-by (perform s (backfill-op n)) (backfill-beside _) m _)
-    op-keeps seq-op above = untouched-keeps mark m _ (untouched-by (perform s seq-op) seq-beside m p)
-    op-keeps epoch-op above = untouched-keeps mark m _ (untouched-by (perform s epoch-op) epoch-beside m p)
-
-  pub next-seen : (e : Event) (w : World) (b : Book) → Stands s (w .memory) b → Seen mark es (w .memory) → KeepsAbove s mark e w → Seen mark es (next s e w .memory)
-  next-seen e w b stands seen above =
-      let k = op-keeps w b stands seen (e .who) (e .op) above in
-      record { same-view = k .view-kept ∙ seen .same-view; mark-published = omega (arith, seen .mark-published, k .published-kept) }
-
-  -- EVERY SEQUENCE during a hold
-  pub run-seen : (events : List Event) (w : World) (b : Book) → Stands s (w .memory) b → Seen mark es (w .memory) → Throughout (KeepsAbove s mark) s events w → Seen mark es (run s events w .memory)
-  unfolding run Throughout
-  run-seen [] w b stands seen above = seen
-  run-seen (e ∷ rest) w b stands seen above =
-      run-seen rest (next s e w) (entered (e .op) (answer-of s e w) b) (next-stands s e w b stands) (next-seen e w b stands seen (above .0)) (above .1)
+      go : (op : Op) → KeepsAbove s mark (record { who = e .who; op = op }) w → ToIndex s op → Keeps mark m (after (perform s op) m p .memory)
+      go op above (records {page} {frame} {grow}) = record-keeps page frame grow m p b stands seen
+      go op above (rolls {bound}) = rollback-keeps bound m p b stands (above bound rolls-back)
+      go op above (publishes {frame} {c1} {c2} {count}) =
+          let r = commit-raises frame c1 c2 count m p in
+          let raised = r .published-raised in
+          index-keeps mark m _ (r .index-same) (omega arith)
+      go op above (passes-by leaves same) = untouched-keeps mark m _ (untouched-by (perform s op) leaves m p)

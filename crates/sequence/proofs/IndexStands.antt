@@ -11,7 +11,7 @@ use lib.ListN.{length}
 use Rattle.wal_types.specs.declared.Header.{Header}
 use Rattle.wal_types.specs.Memory.{Memory, Process}
 use Rattle.wal_types.specs.Store.{to-header, max-frame, checksum-1, checksum-2, transaction-count, visibility-generation, Piece, apply, one, when, _then_}
-use Rattle.wal_types.specs.Call.{Pair, pair, Answer, refused, ok, flag, value, stored, dropped, kept, frame-found, none, listed, slot-taken, Done, after}
+use Rattle.wal_types.specs.Call.{Pair, pair, Answer, Done, after}
 use Rattle.header_publish.specs.Publish.{publish-commit}
 use Rattle.header_publish.specs.Publish.{next as next-count}
 use Rattle.index_find.specs.Index.{index-refusal}
@@ -22,13 +22,14 @@ use Rattle.index_record.proofs.Recorded.{record-refused}
 use Rattle.index_record.proofs.RolledBack.{rollback-refused}
 use Rattle.index_grown.specs.Entries.{entries, entries-found, taken-off}
 use Rattle.index_grown.specs.Grown.{Grown, SameIndex}
-use Rattle.index_grown.specs.Calls.{RecordLeaves, RollbackLeaves, SameReaders}
+use Rattle.index_grown.specs.Calls.{RecordLeaves, left-stored, left-dropped, left-refused, RollbackLeaves, left-kept, left-whole, SameReaders}
 use Rattle.index_grown.proofs.Starts.{fresh-grown, fresh-entries, same-grown, same-entries}
 use Rattle.index_grown.proofs.Records.{record-grown, record-leaves, record-elsewhere}
 use Rattle.index_grown.proofs.Rollbacks.{rollback-grown, rollback-leaves, rollback-elsewhere}
-use Rattle.sequence.specs.Sequence.{Settings, Op, record-op, rollback-op, find-op, list-op, register-op, share-op, move-op, release-op, unshare-op, floor-op, limit-op, db-reader-op, acquire-op, unlock-op, commit-op, backfill-op, seq-op, epoch-op, perform, World, Event, answer-of, next, run, FreshWorld}
+use Rattle.sequence.specs.Sequence.{Settings, Op, perform, World, Event, answer-of, next, run, FreshWorld}
 use Rattle.sequence.specs.Book.{Book, empty-book, found-pairs, recorded-in, rolled-back-in, entered, book-after}
-use Rattle.sequence.proofs.IndexAside.{Untouched, untouched-by, find-beside, list-beside, register-beside, share-beside, move-beside, release-beside, unshare-beside, floor-beside, limit-beside, db-reader-beside, acquire-beside, unlock-beside, backfill-beside, seq-beside, epoch-beside}
+use Rattle.sequence.proofs.IndexAside.{Untouched, untouched-by}
+use Rattle.sequence.proofs.IndexCalls.{ToIndex, records, rolls, publishes, passes-by, to-index}
 
 -- the number by which every call on the index is refused; 0 for none
 abbrev pub refusal-of : Settings → Memory → ℕ
@@ -92,20 +93,12 @@ module _ (s : Settings) (m : Memory) (b : Book) (stands : Stands s m b) where
       call-done : Done
       call-done = after (record-frame (s .capacity) (s .max-blocks) page frame grow) m p
 
-      by-answer : (a : Answer) (m′ : Memory) → Grown (s .capacity) (s .max-blocks) m′ → SameReaders m m′ → RecordLeaves page frame m a m′ → Stands s m′ (recorded-in page frame a b)
-      by-answer stored m′ g r leaves =
+      by-answer : (a : Answer) (m′ : Memory) → Grown (s .capacity) (s .max-blocks) m′ → SameReaders m m′ → RecordLeaves page frame m m′ a → Stands s m′ (recorded-in page frame a b)
+      by-answer a m′ g r (left-stored leaves) =
           record { pairs-by-book = leaves ∙ ap (λ (l : List Pair). l ++ (pair page frame ∷ [])) (found-by-book frame); published-by-book = r .same-published ∙ stands .published-by-book; grown-or-shut = inl g }
-      by-answer dropped m′ g r leaves =
+      by-answer a m′ g r (left-dropped leaves) =
           record { pairs-by-book = leaves ∙ found-by-book frame; published-by-book = r .same-published ∙ stands .published-by-book; grown-or-shut = inl g }
-      by-answer (refused n) m′ g r leaves = subst (λ (x : Memory). Stands s x b) (sym leaves) stands
-      by-answer ok m′ g r leaves = absurd leaves
-      by-answer (flag t) m′ g r leaves = absurd leaves
-      by-answer (value n) m′ g r leaves = absurd leaves
-      by-answer (kept n) m′ g r leaves = absurd leaves
-      by-answer (frame-found f) m′ g r leaves = absurd leaves
-      by-answer none m′ g r leaves = absurd leaves
-      by-answer (listed l) m′ g r leaves = absurd leaves
-      by-answer (slot-taken i o k) m′ g r leaves = absurd leaves
+      by-answer a m′ g r (left-refused same) = subst (λ (x : Memory). Stands s x b) (sym same) stands
 
       go : Grown (s .capacity) (s .max-blocks) m ⊎ (refusal-of s m ≡ 0 → ⊥) → Stands s (call-done .memory) (recorded-in page frame (call-done .answer) b)
       go (inl g) =
@@ -124,19 +117,10 @@ module _ (s : Settings) (m : Memory) (b : Book) (stands : Stands s m b) where
       call-done : Done
       call-done = after (rollback-frames (s .capacity) (s .max-blocks) bound) m p
 
-      by-answer : (a : Answer) (m′ : Memory) → Grown (s .capacity) (s .max-blocks) m′ → SameReaders m m′ → RollbackLeaves bound m a m′ → Stands s m′ (rolled-back-in bound a b)
-      by-answer (kept n) m′ g r leaves =
-          record { pairs-by-book = leaves .0 ∙ ap (taken-off bound) (stands .pairs-by-book); published-by-book = r .same-published ∙ stands .published-by-book; grown-or-shut = inl g }
-      by-answer (refused n) m′ g r leaves = subst (λ (x : Memory). Stands s x b) (sym leaves) stands
-      by-answer stored m′ g r leaves = absurd leaves
-      by-answer dropped m′ g r leaves = absurd leaves
-      by-answer ok m′ g r leaves = absurd leaves
-      by-answer (flag t) m′ g r leaves = absurd leaves
-      by-answer (value n) m′ g r leaves = absurd leaves
-      by-answer (frame-found f) m′ g r leaves = absurd leaves
-      by-answer none m′ g r leaves = absurd leaves
-      by-answer (listed l) m′ g r leaves = absurd leaves
-      by-answer (slot-taken i o k) m′ g r leaves = absurd leaves
+      by-answer : (a : Answer) (m′ : Memory) → Grown (s .capacity) (s .max-blocks) m′ → SameReaders m m′ → RollbackLeaves bound m m′ a → Stands s m′ (rolled-back-in bound a b)
+      by-answer a m′ g r (left-kept leaves counted) =
+          record { pairs-by-book = leaves ∙ ap (taken-off bound) (stands .pairs-by-book); published-by-book = r .same-published ∙ stands .published-by-book; grown-or-shut = inl g }
+      by-answer a m′ g r (left-whole same) = subst (λ (x : Memory). Stands s x b) (sym same) stands
 
       go : Grown (s .capacity) (s .max-blocks) m ⊎ (refusal-of s m ≡ 0 → ⊥) → Stands s (call-done .memory) (rolled-back-in bound (call-done .answer) b)
       go (inl g) =
@@ -167,30 +151,17 @@ commit-raises frame c1 c2 count m p = go (leb (m .header .«max_frame») frame)
     go false = record { index-same = record { same-len = refl; same-blocks = refl; same-pages = refl; same-frames = refl; same-hash = refl }; published-raised = refl }
 
 -- EACH CALL: the index stands by the book in which the call is entered
-pub op-stands : (s : Settings) (op : Op) (m : Memory) (p : Process) (b : Book) → Stands s m b → Stands s (after (perform s op) m p .memory) (entered op (after (perform s op) m p .answer) b)
-op-stands s (record-op page frame grow) m p b x = record-stands s m b x page frame grow p
-op-stands s (rollback-op bound) m p b x = rollback-stands s m b x bound p
-op-stands s (commit-op frame c1 c2 count) m p b x =
+op-stands : (s : Settings) (op : Op) (m : Memory) (p : Process) (b : Book) → Stands s m b → ToIndex s op → Stands s (after (perform s op) m p .memory) (entered op (after (perform s op) m p .answer) b)
+op-stands s op m p b x (records {page} {frame} {grow}) = record-stands s m b x page frame grow p
+op-stands s op m p b x (rolls {bound}) = rollback-stands s m b x bound p
+op-stands s op m p b x (publishes {frame} {c1} {c2} {count}) =
     let r = commit-raises frame c1 c2 count m p in
     index-stands s m b x _ (max (b .published) frame) (r .index-same) (r .published-raised ∙ ap (λ (n : ℕ). max n frame) (x .published-by-book))
-op-stands s (find-op page low high w) m p b x = untouched-stands s m b x _ (untouched-by (perform s (find-op page low high w)) (find-beside _ _ _ _ _ _) m _)
-op-stands s (list-op low high room-pages room-frames) m p b x = untouched-stands s m b x _ (untouched-by (perform s (list-op low high room-pages room-frames)) (list-beside _ _ _ _ _ _) m _)
-op-stands s (register-op owner mark bytes) m p b x = untouched-stands s m b x _ (untouched-by (perform s (register-op owner mark bytes)) (register-beside _ _ _ _ _) m _)
-op-stands s (share-op owner mark bytes) m p b x = untouched-stands s m b x _ (untouched-by (perform s (share-op owner mark bytes)) (share-beside _ _ _ _ _) m _)
-op-stands s (move-op slot owner mark) m p b x = untouched-stands s m b x _ (untouched-by (perform s (move-op slot owner mark)) (move-beside _ _ _ _) m _)
-op-stands s (release-op slot owner) m p b x = untouched-stands s m b x _ (untouched-by (perform s (release-op slot owner)) (release-beside _ _ _ _) m _)
-op-stands s (unshare-op mark slot owner) m p b x = untouched-stands s m b x _ (untouched-by (perform s (unshare-op mark slot owner)) (unshare-beside _ _ _ _ _) m _)
-op-stands s (floor-op bytes) m p b x = untouched-stands s m b x _ (untouched-by (perform s (floor-op bytes)) (floor-beside _ _ _) m _)
-op-stands s (limit-op bytes) m p b x = untouched-stands s m b x _ (untouched-by (perform s (limit-op bytes)) (limit-beside _ _ _) m _)
-op-stands s (db-reader-op bytes) m p b x = untouched-stands s m b x _ (untouched-by (perform s (db-reader-op bytes)) (db-reader-beside _ _ _) m _)
-op-stands s (acquire-op lock owner byte) m p b x = untouched-stands s m b x _ (untouched-by (perform s (acquire-op lock owner byte)) (acquire-beside _ _ _) m _)
-op-stands s (unlock-op lock owner) m p b x = untouched-stands s m b x _ (untouched-by (perform s (unlock-op lock owner)) (unlock-beside _ _ _) m _)
-op-stands s (backfill-op n) m p b x = untouched-stands s m b x _ (untouched-by (perform s (backfill-op n)) (backfill-beside _) m _)
-op-stands s seq-op m p b x = untouched-stands s m b x _ (untouched-by (perform s seq-op) seq-beside m p)
-op-stands s epoch-op m p b x = untouched-stands s m b x _ (untouched-by (perform s epoch-op) epoch-beside m p)
+op-stands s op m p b x (passes-by leaves same) =
+    subst (Stands s (after (perform s op) m p .memory)) (sym (same (after (perform s op) m p .answer) b)) (untouched-stands s m b x _ (untouched-by (perform s op) leaves m p))
 
 pub next-stands : (s : Settings) (e : Event) (w : World) (b : Book) → Stands s (w .memory) b → Stands s (next s e w .memory) (entered (e .op) (answer-of s e w) b)
-next-stands s e w b x = op-stands s (e .op) (w .memory) (w .processes (e .who)) b x
+next-stands s e w b x = op-stands s (e .op) (w .memory) (w .processes (e .who)) b x (to-index s (e .op))
 
 -- EVERY SEQUENCE
 pub run-stands : (s : Settings) (events : List Event) (w : World) (b : Book) → Stands s (w .memory) b → Stands s (run s events w .memory) (book-after s events w b)

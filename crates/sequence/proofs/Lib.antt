@@ -1,17 +1,19 @@
 -- Demand 3: its proof; the order of refusals; and a worked sequence.
-pub mod ReadOnly
+pub mod Looks
 pub mod ReaderStores
 pub mod SlotsAside
 pub mod SlotsCells
 pub mod SlotsStep
 pub mod IndexAside
+pub mod IndexCalls
 pub mod SlotsShared
 pub mod IndexStands
 pub mod ReadersInv
+pub mod ReadersHold
 pub mod IndexSeen
+pub mod HoldLasts
 pub mod IndexAnswers
 pub mod ReadersFloor
-pub mod ReadersHold
 pub mod Demand3
 pub mod Order
 pub mod Trace

@@ -15,7 +15,7 @@ use Rattle.wal_types.specs.Settings.{unused, is-fcntl}
 use Rattle.wal_types.specs.Memory.{Memory, Process}
 use Rattle.wal_types.specs.Store.{apply, when}
 use Rattle.wal_types.specs.Refusal.{lowest}
-use Rattle.wal_types.specs.Call.{value, frame-found, Done, after, does}
+use Rattle.wal_types.specs.Call.{value, frame-found, turned-away, accepted, Done, after, does}
 use Rattle.wal_types.proofs.Stores.{apply-append}
 use Rattle.reader_probe.specs.declared.live.Floor.{Floor}
 use Rattle.reader_probe.specs.declared.live.Floor.the-variants.{Mark, NoMark}
@@ -26,7 +26,6 @@ use Rattle.reader_limit.specs.Limit.{limit-of, copy-back-limit}
 use Rattle.reader_slots.proofs.Cells.{getD-any, and-false}
 use Rattle.reader_slots.proofs.Kept.{SlotSame, slot-same, emptied-other}
 use Rattle.reader_floor.proofs.Least.{AtMost, floor-at-most}
-use Rattle.sequence.specs.Hold.{accepted}
 use Rattle.sequence.proofs.SlotsAside.{by-tests}
 use Rattle.sequence.proofs.SlotsCells.{not-both, none-applies, room}
 
@@ -130,7 +129,7 @@ module _ (n : ℕ) (mode : SharedWalOwnershipMode) (bytes : List ℕ) (m : Memor
   pub floor-bound : accepted (after (min-active-reader-frame n mode bytes) m p .answer) → Stays (after (min-active-reader-frame n mode bytes) m p .memory) → (f : ℕ) × (after (min-active-reader-frame n mode bytes) m p .answer ≡ frame-found f) × (f ≤ x)
   unfolding min-active-reader-frame AtMost
   floor-bound =
-      by-tests (probe-tests n mode bytes n) (λ m p. does (floor-answer (floor-of n mode bytes m p)) (reclaim-dead mode bytes p n) m p) m p Bound (λ k a. absurd a) (λ e a h. go (floor-of n mode bytes m p) (bounded e h))
+      by-tests (probe-tests n mode bytes n) (λ m p. does (floor-answer (floor-of n mode bytes m p)) (reclaim-dead mode bytes p n) m p) m p Bound (λ k a. absurd (a turned-away)) (λ e a h. go (floor-of n mode bytes m p) (bounded e h))
     where
       Bound : Done → Type 0
       Bound d = accepted (d .answer) → Stays (d .memory) → (f : ℕ) × (d .answer ≡ frame-found f) × (f ≤ x)
@@ -142,7 +141,7 @@ module _ (n : ℕ) (mode : SharedWalOwnershipMode) (bytes : List ℕ) (m : Memor
   pub limit-bound : accepted (after (copy-back-limit n mode bytes) m p .answer) → Stays (after (copy-back-limit n mode bytes) m p .memory) → (l : ℕ) × (after (copy-back-limit n mode bytes) m p .answer ≡ value l) × (l ≤ x)
   unfolding copy-back-limit AtMost
   limit-bound =
-      by-tests (probe-tests n mode bytes n) (λ m p. does (value (limit-of (m .header .«max_frame») (floor-of n mode bytes m p))) (reclaim-dead mode bytes p n) m p) m p Bound (λ k a. absurd a) (λ e a h. go (floor-of n mode bytes m p) (bounded e h))
+      by-tests (probe-tests n mode bytes n) (λ m p. does (value (limit-of (m .header .«max_frame») (floor-of n mode bytes m p))) (reclaim-dead mode bytes p n) m p) m p Bound (λ k a. absurd (a turned-away)) (λ e a h. go (floor-of n mode bytes m p) (bounded e h))
     where
       Bound : Done → Type 0
       Bound d = accepted (d .answer) → Stays (d .memory) → (l : ℕ) × (d .answer ≡ value l) × (l ≤ x)

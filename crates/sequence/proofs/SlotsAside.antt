@@ -16,15 +16,11 @@ use Rattle.header_publish.specs.Publish.{publish-commit, publish-backfill, bump
 use Rattle.header_locks.specs.Locks.{local-owner, owner-cell, with-local-owner, acquire-tests, acquires, try-acquire, release-tests, releases, release}
 use Rattle.header_locks.proofs.Stored.{acquire-stores, release-stores}
 use Rattle.header_publish.proofs.Stored.{commit-stores-to, backfill-stores, seq-stores, epoch-stores}
-use Rattle.index_find.specs.declared.find.Watermark.{Watermark}
 use Rattle.index_find.specs.Index.{index-tests}
-use Rattle.index_find.specs.Find.{find-frame}
 use Rattle.index_end.specs.Place.{started, drops}
 use Rattle.index_record.specs.Record.{record-tests, drop-stores, enter-stores, records, record-frame}
 use Rattle.index_record.specs.Rollback.{kept-len, rollback-stores, rollback-frames}
 use Rattle.index_record.proofs.Stored.{record-stores, rollback-stores-to}
-use Rattle.list_latest.specs.Latest.{iter-latest-frames}
-use Rattle.sequence.proofs.ReadOnly.{find-reads, list-reads}
 
 -- a call is refused and changes nothing, or passes its tests and is made
 module _ (tests : Memory → Process → List Test) (call : Call) (m : Memory) (p : Process) where
@@ -103,12 +99,6 @@ own-cond-of false f g p x y = y
 -- reading calls
 pub reads-leave : (call : Call) → Reads call → LeavesSlots call
 reads-leave call r = record { stores-aside = every-of-reads Aside call r; own-left = λ m p. rw (r m p .1) (own-itself p) }
-
-pub find-leaves : (capacity b page low high : ℕ) (w : Watermark) → LeavesSlots (find-frame capacity b page low high w)
-find-leaves capacity b page low high w = reads-leave (find-frame capacity b page low high w) (find-reads capacity b page low high w)
-
-pub list-leaves : (capacity b low high room-pages room-frames : ℕ) → LeavesSlots (iter-latest-frames capacity b low high room-pages room-frames)
-list-leaves capacity b low high room-pages room-frames = reads-leave (iter-latest-frames capacity b low high room-pages room-frames) (list-reads capacity b low high room-pages room-frames)
 
 -- calls on the index
 record-own : (capacity b page frame : ℕ) (grow : Bool) (m : Memory) (p : Process) → OwnSame p (record-frame capacity b page frame grow m p .process)

@@ -12,7 +12,7 @@ use Rattle.wal_types.specs.declared.SharedReadMark.{SharedReadMark}
 use Rattle.wal_types.specs.declared.SharedWalOwnershipMode.{SharedWalOwnershipMode}
 use Rattle.wal_types.specs.Memory.{Memory, Process, no-mark}
 use Rattle.wal_types.specs.Refusal.{lowest}
-use Rattle.wal_types.specs.Call.{Answer, refused, ok, slot-taken, none, Done, done, after}
+use Rattle.wal_types.specs.Call.{Answer, refused, ok, slot-taken, none, if-slot, Done, done, after}
 use Rattle.wal_types.proofs.Refusals.{call-accepted}
 use Rattle.reader_slots.specs.declared.slots.Slot.{Slot}
 use Rattle.reader_slots.specs.declared.slots.Slot.the-variants.{At as SlotAt, Nothing as NoSlot}
@@ -26,10 +26,16 @@ use Rattle.reader_marks.specs.declared.Record.{Record}
 use Rattle.reader_marks.specs.declared.Record.the-variants.{At, Nothing}
 use Rattle.reader_marks.specs.Registry.{record-of, empty-record, one-more, one-less, with-record}
 use Rattle.reader_shared.specs.Shared.{no-room, share-tests, new-record, shares, register-reader-for-snapshot, registered, unshare-tests, unshares, unregister-reader-for-snapshot}
-use Rattle.sequence.specs.Hold.{is-slot, is-ok}
+use Rattle.sequence.specs.Sequence.{share-op, unshare-op, shared-op}
+use Rattle.sequence.specs.Hold.{counted}
 use Rattle.sequence.proofs.SlotsAside.{by-tests}
 use Rattle.sequence.proofs.SlotsCells.{not-both, neither-true, both-true, none-applies, rec-at, Fitting, record-found, NoRecord, record-missing, empty-found}
 use Rattle.sequence.proofs.SlotsStep.{HeldKept, HeldStay, OtherRecords, Uncounted, Adds, Drops, Step, quiet, joined, opened, left, closed, nothing-done, other-held, register-done, register-held, register-stay}
+
+-- a count that stays whether the mark is its own or not
+either-way : (t : Bool) (c : ℕ) → cond t c c ≡ c
+either-way true c = refl
+either-way false c = refl
 
 -- A new shared hold: slot t is taken, and the empty record r is now its and the mark's.
 pub record Opening (n owner mark t r : ℕ) (m : Memory) (p : Process) (d : Done) : Type 0 where
@@ -131,8 +137,8 @@ module _ (n : ℕ) (mode : SharedWalOwnershipMode) (owner mark : ℕ) (bytes : L
       Opens : Done → Type 0
       Opens d = d .answer ≡ slot-taken i o mark → (r : ℕ) × Opening n owner mark i r m p d
 
-      never : {A : Type 0} (a : Answer) → a ≡ slot-taken i o mark → is-slot a ≡ false → A
-      never a e f = absurd (not-both (is-slot a) (rw e) f)
+      never : {A : Type 0} (a : Answer) → a ≡ slot-taken i o mark → if-slot (λ t x k. true) false a ≡ false → A
+      never a e f = absurd (not-both (if-slot (λ t x k. true) false a) (rw e) f)
 
       at-record : (r : ℕ) → record-of n (p .registry) mark ≡ At r → Opens (sharing (At r))
       at-record r q e = let f = record-found n p mark r q in absurd (new r (f .below) (f .active) (f .mark-is))
@@ -142,55 +148,43 @@ module _ (n : ℕ) (mode : SharedWalOwnershipMode) (owner mark : ℕ) (bytes : L
           let same : t ≡ i = cc in
           (r, subst (λ (x : ℕ). Opening n owner mark x r m p (done (slot-taken t owner mark) taken (new-record owner mark (SlotAt t) (At r) (hold-found owner p (SlotAt t))))) same o)
 
-  -- the change that a shared registration makes, by any process
-  module _ (who : ℕ) (E : ℕ → ℕ → Type 0) where
+  -- the change that a shared registration makes
+  module _ (E : ℕ → ℕ → Type 0) where
     abbrev ShareCount : Answer → ℕ → ℕ → ℕ
-    ShareCount a k c = cond (eqb who who && eqb mark k && is-slot a) (c + 1) c
+    ShareCount a k c = counted k (shared-op (share-op owner mark bytes)) a c
 
     abbrev ShareStep : Done → Type 0
     ShareStep d = Step n m p d (ShareCount (d .answer)) E
 
-    uncounted : (a : Answer) → is-slot a ≡ false → Uncounted (ShareCount a)
-    uncounted a e k c = rw (e, and-false (eqb who who && eqb mark k))
-
-    counted : (a : Answer) → is-slot a ≡ true → Adds mark (ShareCount a)
-    counted a e k c = rw (e, and-true (eqb who who && eqb mark k), eq-eqb who who refl)
-
     pub share-step : ShareStep share-done
     share-step =
-        share-cases ShareStep (λ k. nothing-done n m p (ShareCount (refused k)) E (uncounted (refused k) refl) (refused k))
-        (λ passes. by-record passes ShareStep (at-record passes) (quiet (uncounted none refl) (taken-held passes) (λ j h. h) (λ j. refl)) at-slot (record-of n (p .registry) mark) refl)
+        share-cases ShareStep (λ k. nothing-done n m p (ShareCount (refused k)) E (λ j c. either-way (eqb mark j) c) (refused k))
+        (λ passes. by-record passes ShareStep (at-record passes) (quiet (λ j c. either-way (eqb mark j) c) (taken-held passes) (λ j h. h) (λ j. refl)) at-slot (record-of n (p .registry) mark) refl)
       where
         at-record : lowest (share-tests n mode owner mark bytes m p) ≡ 0 → (r : ℕ) → record-of n (p .registry) mark ≡ At r → ShareStep (sharing (At r))
         at-record passes r q =
             let f = record-found n p mark r q in
             let room = registry-room passes in
-            joined r mark (counted (slot-taken (rec-at p r .slot) (rec-at p r .owner .0) mark) refl) f (getD-set-same (p .registry) r (one-more (rec-at p r)) no-mark (omega arith)) (λ j g. getD-set-other (p .registry) r j (one-more (rec-at p r)) no-mark g) (λ j h. slot-same j m) (λ j h. h)
+            joined r mark (λ j c. refl) f (getD-set-same (p .registry) r (one-more (rec-at p r)) no-mark (omega arith)) (λ j g. getD-set-other (p .registry) r j (one-more (rec-at p r)) no-mark g) (λ j h. slot-same j m) (λ j h. h)
 
         at-slot : (t r : ℕ) → NoRecord n p mark → Opening n owner mark t r m p (done (slot-taken t owner mark) taken (new-record owner mark (SlotAt t) (At r) (hold-found owner p (SlotAt t)))) → ShareStep (done (slot-taken t owner mark) taken (new-record owner mark (SlotAt t) (At r) (hold-found owner p (SlotAt t))))
         at-slot t r free o =
-            opened r mark t (counted (slot-taken t owner mark) refl) (o .record-below) (o .was-empty) free (o .mark-is) (o .slot-is) (o .holders-is) (o .others) (o .took .was-free)
+            opened r mark t (λ j c. refl) (o .record-below) (o .was-empty) free (o .mark-is) (o .slot-is) (o .holders-is) (o .others) (o .took .was-free)
             (rw (o .took .local-is, ne-eqb owner 0 (o .took .owned))) (o .kept) (o .stay)
 
 -- shared releases
-module _ (n : ℕ) (mode : SharedWalOwnershipMode) (mark slot owner : ℕ) (m : Memory) (p : Process) (who : ℕ) (E : ℕ → ℕ → Type 0) where
+module _ (n : ℕ) (mode : SharedWalOwnershipMode) (mark slot owner : ℕ) (m : Memory) (p : Process) (E : ℕ → ℕ → Type 0) where
   abbrev UnshareCount : Answer → ℕ → ℕ → ℕ
-  UnshareCount a k c = cond (eqb who who && eqb mark k && is-ok a) (c - 1) c
+  UnshareCount a k c = counted k (shared-op (unshare-op mark slot owner)) a c
 
   abbrev UnshareStep : Done → Type 0
   UnshareStep d = Step n m p d (UnshareCount (d .answer)) E
-
-  refused-count : (k : ℕ) → Uncounted (UnshareCount (refused k))
-  refused-count k j c = rw (and-false (eqb who who && eqb mark j))
-
-  ok-count : Drops mark (UnshareCount ok)
-  ok-count j c = rw (and-true (eqb who who && eqb mark j), eq-eqb who who refl)
 
   pub unshare-step : UnshareStep (after (unregister-reader-for-snapshot n mode mark slot owner) m p)
   unfolding unregister-reader-for-snapshot
   unshare-step =
       by-tests (unshare-tests n mode mark slot owner) (λ x q. unshares mode slot (record-of n (q .registry) mark) x q) m p UnshareStep
-      (λ k. nothing-done n m p (UnshareCount (refused k)) E (refused-count k) (refused k))
+      (λ k. nothing-done n m p (UnshareCount (refused k)) E (λ j c. either-way (eqb mark j) c) (refused k))
       (λ e. by-record e (record-of n (p .registry) mark) refl)
     where
       registry-long : lowest (unshare-tests n mode mark slot owner m p) ≡ 0 → n ≤ length (p .registry)
@@ -202,11 +196,11 @@ module _ (n : ℕ) (mode : SharedWalOwnershipMode) (mark slot owner : ℕ) (m : 
       by-last : lowest (unshare-tests n mode mark slot owner m p) ≡ 0 → (r : ℕ) → Fitting n p mark r → rec-at p r .slot ≡ slot → (t : Bool) → eqb (rec-at p r .holders) 1 ≡ t → UnshareStep (after (λ x q. cond t (releases-slot mode slot x (with-record q r (one-less (getD (q .registry) r no-mark)))) (record { answer = ok; stores = []; process = with-record q r (one-less (getD (q .registry) r no-mark)) })) m p)
       by-last e r f s true l =
           let room = registry-long e in
-          closed r mark slot ok-count f s (eqb-true (rec-at p r .holders) 1 l) (getD-set-same (p .registry) r (one-less (rec-at p r)) no-mark (omega arith)) (λ j g. getD-set-other (p .registry) r j (one-less (rec-at p r)) no-mark g) (λ j g. emptied-other mode slot j m g)
+          closed r mark slot (λ j c. refl) f s (eqb-true (rec-at p r .holders) 1 l) (getD-set-same (p .registry) r (one-less (rec-at p r)) no-mark (omega arith)) (λ j g. getD-set-other (p .registry) r j (one-less (rec-at p r)) no-mark g) (λ j g. emptied-other mode slot j m g)
           (other-held slot 0 p (with-local (with-record p r (one-less (rec-at p r))) slot 0) refl)
       by-last e r f s false l =
           let room = registry-long e in
-          left r mark ok-count f (eqb-false (rec-at p r .holders) 1 l) (getD-set-same (p .registry) r (one-less (rec-at p r)) no-mark (omega arith)) (λ j g. getD-set-other (p .registry) r j (one-less (rec-at p r)) no-mark g) (λ j h. slot-same j m) (λ j h. h)
+          left r mark (λ j c. refl) f (eqb-false (rec-at p r .holders) 1 l) (getD-set-same (p .registry) r (one-less (rec-at p r)) no-mark (omega arith)) (λ j g. getD-set-other (p .registry) r j (one-less (rec-at p r)) no-mark g) (λ j h. slot-same j m) (λ j h. h)
 
       by-record : lowest (unshare-tests n mode mark slot owner m p) ≡ 0 → (r : Record) → record-of n (p .registry) mark ≡ r → UnshareStep (after (λ x q. unshares mode slot r x q) m p)
       by-record e (At r) q =

@@ -27,7 +27,8 @@ use Rattle.reader_slots.proofs.Kept.{SlotSame, slot-same, emptied-other}
 use Rattle.reader_floor.proofs.Kept.{dead-keeps}
 use Rattle.reader_register.proofs.Taken.{register-keeps}
 use Rattle.reader_marks.specs.Registry.{one-more, one-less}
-use Rattle.sequence.specs.Hold.{accepted}
+use Rattle.sequence.specs.Sequence.{move-op, release-op, slot-op}
+use Rattle.sequence.specs.Hold.{Ending, by-release, by-move}
 use Rattle.sequence.proofs.SlotsAside.{by-tests, Leaves}
 use Rattle.sequence.proofs.SlotsCells.{neither-true, none-applies, rec-at, Fitting, NoRecord, NotNamed, not-named}
 
@@ -141,9 +142,9 @@ module _ (n : ℕ) (mode : SharedWalOwnershipMode) (owner mark : ℕ) (bytes : L
   register-step T E u = quiet u register-held register-stay (λ j. rw register-records)
 
 -- update_reader
-module _ (n slot owner mark : ℕ) (m : Memory) (p : Process) (who : ℕ) where
+module _ (n slot owner mark : ℕ) (m : Memory) (p : Process) where
   abbrev pub MoveEnds : Done → ℕ → ℕ → Type 0
-  MoveEnds d i x = (who ≡ who) × ((slot ≡ i) × (mark ≡ x → ⊥) × accepted (d .answer))
+  MoveEnds d i x = Ending i x (d .answer) (slot-op (move-op slot owner mark))
 
   pub move-step : Step n m p (after (update-reader n slot owner mark) m p) (λ k c. c) (MoveEnds (after (update-reader n slot owner mark) m p))
   unfolding update-reader
@@ -156,15 +157,15 @@ module _ (n slot owner mark : ℕ) (m : Memory) (p : Process) (who : ℕ) where
           let short = neither-true (ltb (length (m .reader-frames)) n || ltb (length (m .reader-owners)) n) (ltb (length (p .registry)) n) (a .1 .0) .0 in
           let frames = ltb-false (length (m .reader-frames)) n (neither-true (ltb (length (m .reader-frames)) n) (ltb (length (m .reader-owners)) n) short .0) in
           let below = leb-false n slot (a .1 .1 .0) in
-          moved slot mark (λ x f. (refl, (refl, f, tt))) (λ k c. refl) (not-named n p slot (a .1 .1 .1 .1 .1 .1 .0))
+          moved slot mark (λ x f. by-move f (λ r. elim r [ ])) (λ k c. refl) (not-named n p slot (a .1 .1 .1 .1 .1 .1 .0))
           (λ j f. record { frame-same = λ d. getD-set-other (m .reader-frames) slot j mark d f; owner-same = λ d. refl; bit-same = refl })
           (getD-set-same (m .reader-frames) slot mark unused (omega arith))
           refl refl
 
 -- unregister_reader
-module _ (n : ℕ) (mode : SharedWalOwnershipMode) (slot owner : ℕ) (m : Memory) (p : Process) (who : ℕ) where
+module _ (n : ℕ) (mode : SharedWalOwnershipMode) (slot owner : ℕ) (m : Memory) (p : Process) where
   abbrev pub ReleaseEnds : Done → ℕ → ℕ → Type 0
-  ReleaseEnds d i x = (who ≡ who) × ((slot ≡ i) × accepted (d .answer))
+  ReleaseEnds d i x = Ending i x (d .answer) (slot-op (release-op slot owner))
 
   pub release-step : Step n m p (after (unregister-reader n mode slot owner) m p) (λ k c. c) (ReleaseEnds (after (unregister-reader n mode slot owner) m p))
   unfolding unregister-reader
@@ -174,7 +175,7 @@ module _ (n : ℕ) (mode : SharedWalOwnershipMode) (slot owner : ℕ) (m : Memor
       made : lowest (release-tests n mode slot owner m p) ≡ 0 → Step n m p (after (releases-slot mode slot) m p) (λ k c. c) (ReleaseEnds (after (releases-slot mode slot) m p))
       made e =
           let a = none-applies (release-tests n mode slot owner m p) e in
-          released slot (λ x. (refl, (refl, tt))) (λ k c. refl) (not-named n p slot (a .1 .1 .1 .1 .1 .1 .0))
+          released slot (λ x. by-release (λ r. elim r [ ])) (λ k c. refl) (not-named n p slot (a .1 .1 .1 .1 .1 .1 .0))
           (λ j f. emptied-other mode slot j m f)
           (other-held slot 0 p (with-local p slot 0) refl)
           (λ j. refl)

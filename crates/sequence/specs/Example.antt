@@ -10,7 +10,7 @@ use Rattle.wal_types.specs.Memory.{Memory, Process, with-header, with-index, wi
 use Rattle.wal_types.specs.Fresh.{fresh-header}
 use Rattle.wal_types.specs.Call.{pair, Answer, refused, ok, value, stored, kept, frame-found, listed, slot-taken}
 use Rattle.index_find.specs.declared.find.Watermark.the-variants.{NoWatermark}
-use Rattle.sequence.specs.Sequence.{Settings, Op, record-op, rollback-op, find-op, list-op, register-op, share-op, release-op, unshare-op, floor-op, limit-op, commit-op, World, Event, answer-of, next}
+use Rattle.sequence.specs.Sequence.{Settings, find-op, list-op, record-op, rollback-op, floor-op, limit-op, register-op, release-op, share-op, unshare-op, Op, look-op, index-op, commit-op, probe-op, slot-op, shared-op, World, Event, answer-of, next}
 use Rattle.sequence.specs.Hold.{direct, shared}
 use Rattle.sequence.specs.Statement.{at-now, Premises}
 
@@ -44,24 +44,24 @@ writer op = record { who = 1; op = op }
 -- Three frames are written and published;
 abbrev pub before : List Event
 before =
-    writer (record-op 7 1 false)
-    ∷ writer (record-op 8199 2 false)
-    ∷ writer (record-op 7 3 false)
+    writer (index-op (record-op 7 1 false))
+    ∷ writer (index-op (record-op 8199 2 false))
+    ∷ writer (index-op (record-op 7 3 false))
     ∷ writer (commit-op 3 0 0 1)
     ∷ []
 
 -- the reader, with owner 10, takes a slot at mark 3, both locks granted;
 abbrev pub begin : Event
-begin = reader (register-op 10 3 (1 ∷ 1 ∷ []))
+begin = reader (slot-op (register-op 10 3 (1 ∷ 1 ∷ [])))
 
 -- the writer cannot release that slot; it writes three more frames, takes the last one back, and publishes.
 abbrev pub during : List Event
 during =
-    writer (release-op 0 10)
-    ∷ writer (record-op 9 4 false)
-    ∷ writer (record-op 7 5 false)
-    ∷ writer (record-op 8199 6 false)
-    ∷ writer (rollback-op 5)
+    writer (slot-op (release-op 0 10))
+    ∷ writer (index-op (record-op 9 4 false))
+    ∷ writer (index-op (record-op 7 5 false))
+    ∷ writer (index-op (record-op 8199 6 false))
+    ∷ writer (index-op (rollback-op 5))
     ∷ writer (commit-op 5 0 0 2)
     ∷ []
 
@@ -79,34 +79,34 @@ answered now = answer-of small now (at-now small 1 fresh-world before begin duri
 
 -- a lookup of page 7 and a list, both up to 3, by the reader; a floor and a copy-back limit by the writer, slot 0 busy
 abbrev pub lookup : Event
-lookup = reader (find-op 7 1 3 NoWatermark)
+lookup = reader (look-op (find-op 7 1 3 NoWatermark))
 
 abbrev pub listing : Event
-listing = reader (list-op 1 3 8 8)
+listing = reader (look-op (list-op 1 3 8 8))
 
 abbrev pub floor : Event
-floor = writer (floor-op (0 ∷ 1 ∷ []))
+floor = writer (probe-op (floor-op (0 ∷ 1 ∷ [])))
 
 abbrev pub limit : Event
-limit = writer (limit-op (0 ∷ 1 ∷ []))
+limit = writer (probe-op (limit-op (0 ∷ 1 ∷ [])))
 
 -- The same with a shared hold, which a second registration joins before the first is released. Its floor is the holder's own,
 -- whose locks are all granted.
 abbrev pub begin-shared : Event
-begin-shared = reader (share-op 10 3 (1 ∷ 1 ∷ []))
+begin-shared = reader (shared-op (share-op 10 3 (1 ∷ 1 ∷ [])))
 
 abbrev pub during-shared : List Event
-during-shared = reader (share-op 11 3 (1 ∷ 1 ∷ [])) ∷ reader (unshare-op 3 0 10) ∷ []
+during-shared = reader (shared-op (share-op 11 3 (1 ∷ 1 ∷ []))) ∷ reader (shared-op (unshare-op 3 0 10)) ∷ []
 
 abbrev pub own-floor : Event
-own-floor = reader (floor-op (1 ∷ 1 ∷ []))
+own-floor = reader (probe-op (floor-op (1 ∷ 1 ∷ [])))
 
 -- The answers are those of the book of three pairs, though page 7's newest frame is 5 and 5 is published.
 pub record Example : Type 0 where
   pub calls-answer :
       answers small (before ++ (begin ∷ during)) fresh-world
       ≡ stored ∷ stored ∷ stored ∷ ok ∷ slot-taken 0 10 3 ∷ refused 7 ∷ stored ∷ stored ∷ stored ∷ kept 5 ∷ ok ∷ []
-  pub newest-is-5 : answered (reader (find-op 7 1 5 NoWatermark)) ≡ frame-found 5
+  pub newest-is-5 : answered (reader (look-op (find-op 7 1 5 NoWatermark))) ≡ frame-found 5
   pub lookup-held : Held lookup
   pub lookup-gives : answered lookup ≡ frame-found 3
   pub list-held : Held listing

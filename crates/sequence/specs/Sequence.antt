@@ -28,47 +28,88 @@ pub record Settings : Type 0 where
   pub slots : ℕ
   pub mode : SharedWalOwnershipMode
 
--- The calls, with what each is given besides settings and memory: cards, growth answers and the lengths of output lists are the
--- host's.
-pub data Op : Type 0 where
-  record-op : (page frame : ℕ) (grow : Bool) → Op
-  rollback-op : (bound : ℕ) → Op
-  find-op : (page low high : ℕ) (w : Watermark) → Op
-  list-op : (low high room-pages room-frames : ℕ) → Op
-  register-op : (owner mark : ℕ) (bytes : List ℕ) → Op
-  share-op : (owner mark : ℕ) (bytes : List ℕ) → Op
-  move-op : (slot owner mark : ℕ) → Op
-  release-op : (slot owner : ℕ) → Op
-  unshare-op : (mark slot owner : ℕ) → Op
-  floor-op : (bytes : List ℕ) → Op
-  limit-op : (bytes : List ℕ) → Op
-  db-reader-op : (bytes : List ℕ) → Op
-  acquire-op : (lock : Lock) (owner byte : ℕ) → Op
-  unlock-op : (lock : Lock) (owner : ℕ) → Op
-  commit-op : (frame c1 c2 count : ℕ) → Op
-  backfill-op : (n : ℕ) → Op
-  seq-op epoch-op : Op
+-- The calls, in families by what a call may change, with what each is given besides settings and memory: cards, growth answers
+-- and the lengths of output lists are the host's. Each family is followed by what its calls mean.
 
--- what each of them means (register_db_file_reader is a share-op at mark 0)
+-- Calls that only look: they change nothing.
+pub data LookOp : Type 0 where
+  find-op : (page low high : ℕ) (w : Watermark) → LookOp
+  list-op : (low high room-pages room-frames : ℕ) → LookOp
+
+abbrev pub look : Settings → LookOp → Call
+look s (find-op page low high w) = find-frame (s .capacity) (s .max-blocks) page low high w
+look s (list-op low high room-pages room-frames) = iter-latest-frames (s .capacity) (s .max-blocks) low high room-pages room-frames
+
+-- Calls on the index.
+pub data IndexOp : Type 0 where
+  record-op : (page frame : ℕ) (grow : Bool) → IndexOp
+  rollback-op : (bound : ℕ) → IndexOp
+
+abbrev pub on-index : Settings → IndexOp → Call
+on-index s (record-op page frame grow) = record-frame (s .capacity) (s .max-blocks) page frame grow
+on-index s (rollback-op bound) = rollback-frames (s .capacity) (s .max-blocks) bound
+
+-- Calls on header cells that are neither the index's nor the published frame: the two locks, the other counters.
+pub data HeaderOp : Type 0 where
+  acquire-op : (lock : Lock) (owner byte : ℕ) → HeaderOp
+  unlock-op : (lock : Lock) (owner : ℕ) → HeaderOp
+  backfill-op : (n : ℕ) → HeaderOp
+  seq-op epoch-op : HeaderOp
+
+abbrev pub on-header : Settings → HeaderOp → Call
+on-header s (acquire-op lock owner byte) = try-acquire lock owner byte
+on-header s (unlock-op lock owner) = release lock (s .mode) owner
+on-header s (backfill-op n) = publish-backfill n
+on-header s seq-op = bump-checkpoint-seq
+on-header s epoch-op = bump-checkpoint-epoch
+
+-- Calls that look at every slot, and reclaim those whose process is gone.
+pub data ProbeOp : Type 0 where
+  floor-op limit-op db-reader-op : (bytes : List ℕ) → ProbeOp
+
+abbrev pub probe : Settings → ProbeOp → Call
+probe s (floor-op bytes) = min-active-reader-frame (s .slots) (s .mode) bytes
+probe s (limit-op bytes) = copy-back-limit (s .slots) (s .mode) bytes
+probe s (db-reader-op bytes) = has-active-db-file-reader (s .slots) (s .mode) bytes
+
+-- Calls on a slot, and on their process's own cell of it.
+pub data SlotOp : Type 0 where
+  register-op : (owner mark : ℕ) (bytes : List ℕ) → SlotOp
+  move-op : (slot owner mark : ℕ) → SlotOp
+  release-op : (slot owner : ℕ) → SlotOp
+
+abbrev pub on-slot : Settings → SlotOp → Call
+on-slot s (register-op owner mark bytes) = register-reader (s .slots) (s .mode) owner mark bytes
+on-slot s (move-op slot owner mark) = update-reader (s .slots) slot owner mark
+on-slot s (release-op slot owner) = unregister-reader (s .slots) (s .mode) slot owner
+
+-- Calls on their process's registry too (register_db_file_reader is a share-op at mark 0).
+pub data SharedOp : Type 0 where
+  share-op : (owner mark : ℕ) (bytes : List ℕ) → SharedOp
+  unshare-op : (mark slot owner : ℕ) → SharedOp
+
+abbrev pub on-registry : Settings → SharedOp → Call
+on-registry s (share-op owner mark bytes) = register-reader-for-snapshot (s .slots) (s .mode) owner mark bytes
+on-registry s (unshare-op mark slot owner) = unregister-reader-for-snapshot (s .slots) (s .mode) mark slot owner
+
+-- All calls. publish_commit is a family of its own: it alone raises the published frame.
+pub data Op : Type 0 where
+  look-op : LookOp → Op
+  index-op : IndexOp → Op
+  commit-op : (frame c1 c2 count : ℕ) → Op
+  header-op : HeaderOp → Op
+  probe-op : ProbeOp → Op
+  slot-op : SlotOp → Op
+  shared-op : SharedOp → Op
+
 abbrev pub perform : Settings → Op → Call
-perform s (record-op page frame grow) = record-frame (s .capacity) (s .max-blocks) page frame grow
-perform s (rollback-op bound) = rollback-frames (s .capacity) (s .max-blocks) bound
-perform s (find-op page low high w) = find-frame (s .capacity) (s .max-blocks) page low high w
-perform s (list-op low high room-pages room-frames) = iter-latest-frames (s .capacity) (s .max-blocks) low high room-pages room-frames
-perform s (register-op owner mark bytes) = register-reader (s .slots) (s .mode) owner mark bytes
-perform s (share-op owner mark bytes) = register-reader-for-snapshot (s .slots) (s .mode) owner mark bytes
-perform s (move-op slot owner mark) = update-reader (s .slots) slot owner mark
-perform s (release-op slot owner) = unregister-reader (s .slots) (s .mode) slot owner
-perform s (unshare-op mark slot owner) = unregister-reader-for-snapshot (s .slots) (s .mode) mark slot owner
-perform s (floor-op bytes) = min-active-reader-frame (s .slots) (s .mode) bytes
-perform s (limit-op bytes) = copy-back-limit (s .slots) (s .mode) bytes
-perform s (db-reader-op bytes) = has-active-db-file-reader (s .slots) (s .mode) bytes
-perform s (acquire-op lock owner byte) = try-acquire lock owner byte
-perform s (unlock-op lock owner) = release lock (s .mode) owner
+perform s (look-op o) = look s o
+perform s (index-op o) = on-index s o
 perform s (commit-op frame c1 c2 count) = publish-commit frame c1 c2 count
-perform s (backfill-op n) = publish-backfill n
-perform s seq-op = bump-checkpoint-seq
-perform s epoch-op = bump-checkpoint-epoch
+perform s (header-op o) = on-header s o
+perform s (probe-op o) = probe s o
+perform s (slot-op o) = on-slot s o
+perform s (shared-op o) = on-registry s o
 
 -- The shared memory, and each process's own cells and registry, by the process's number.
 pub record World : Type 0 where

@@ -2,14 +2,14 @@
 use mathlib.Core.Path.{_≡_}
 use mathlib.Core.List.{List, [], _∷_, _++_}
 use Prim.Native.Nat.{ℕ, _≤_}
-use Rattle.wal_types.specs.Call.{Pair, Answer, value, frame-found, listed}
-use Rattle.index_find.specs.declared.find.Watermark.the-variants.{UpTo, NoWatermark}
+use Rattle.wal_types.specs.Call.{Pair, Answer, value, frame-found, listed, accepted}
+use Rattle.index_find.specs.declared.find.Watermark.the-variants.{NoWatermark}
 use Rattle.index_find.specs.Find.{lookup-answer}
 use Rattle.index_grown.specs.Entries.{greatest}
 use Rattle.index_grown.specs.Listed.{IsListOf}
-use Rattle.sequence.specs.Sequence.{Settings, Op, record-op, rollback-op, find-op, list-op, register-op, share-op, move-op, release-op, unshare-op, floor-op, limit-op, db-reader-op, acquire-op, unlock-op, commit-op, backfill-op, seq-op, epoch-op, World, Event, answer-of, next, run, FreshWorld, Throughout}
+use Rattle.sequence.specs.Sequence.{Settings, find-op, list-op, floor-op, limit-op, Op, look-op, probe-op, World, Event, answer-of, next, run, FreshWorld, Throughout}
 use Rattle.sequence.specs.Book.{Book, empty-book, book-after, InPairs}
-use Rattle.sequence.specs.Hold.{accepted, holders-after, Kind, Begins, Lasts, KeepsAbove, LeavesSlot}
+use Rattle.sequence.specs.Hold.{holders-after, Kind, Begins, Lasts, KeepsAbove, LeavesSlot}
 
 -- A sequence of calls from a fresh world: those before, the one that begins a hold of slot i at mark m, those during the hold, and
 -- one more call now.
@@ -45,28 +45,17 @@ module _ (s : Settings) (start : ℕ) (fresh : World) (before : List Event) (beg
     -- "and no other process changes its slot"
     pub slot-left : Throughout (LeavesSlot s (begin .who) i) s (during ++ (now ∷ [])) at-hold
 
-  -- What is owed of the call now, if it is accepted: "each lookup or list up to m, without a watermark, answers by the book as it
-  -- stood when the hold began"; "each floor exists and is at most m"; an accepted copy-back limit is at most m.
-  abbrev pub Owed : Op → Answer → Type 0
-  Owed (find-op page low high NoWatermark) a = high ≤ m → accepted a → a ≡ lookup-answer (greatest (book .pairs) page low high)
-  Owed (find-op page low high (UpTo w)) a = Unit {0}
-  Owed (list-op low high room-pages room-frames) a = high ≤ m → accepted a → (l : List Pair) × (a ≡ listed l) × IsListOf (book .pairs) low high l
-  Owed (floor-op bytes) a = accepted a → (f : ℕ) × (a ≡ frame-found f) × (f ≤ m)
-  Owed (limit-op bytes) a = accepted a → (l : ℕ) × (a ≡ value l) × (l ≤ m)
-  Owed (record-op page frame grow) a = Unit {0}
-  Owed (rollback-op bound) a = Unit {0}
-  Owed (register-op owner mark bytes) a = Unit {0}
-  Owed (share-op owner mark bytes) a = Unit {0}
-  Owed (move-op slot owner mark) a = Unit {0}
-  Owed (release-op slot owner) a = Unit {0}
-  Owed (unshare-op mark slot owner) a = Unit {0}
-  Owed (db-reader-op bytes) a = Unit {0}
-  Owed (acquire-op lock owner byte) a = Unit {0}
-  Owed (unlock-op lock owner) a = Unit {0}
-  Owed (commit-op frame c1 c2 count) a = Unit {0}
-  Owed (backfill-op n) a = Unit {0}
-  Owed seq-op a = Unit {0}
-  Owed epoch-op a = Unit {0}
+  -- What is owed of the call now, by its answer: "each lookup or list up to m during the hold, accepted and without a watermark,
+  -- answers by document 01's book as it stood when the hold began";
+  pub record Owed (op : Op) (a : Answer) : Type 0 where
+    -- "a lookup gives the greatest indexed frame of the page within the bounds, or none"
+    pub lookup-owed : (page low high : ℕ) → op ≡ look-op (find-op page low high NoWatermark) → high ≤ m → accepted a → a ≡ lookup-answer (greatest (book .pairs) page low high)
+    -- "a list gives each page that has such a frame, and no other, once, with the greatest, by rising page"
+    pub list-owed : (low high room-pages room-frames : ℕ) → op ≡ look-op (list-op low high room-pages room-frames) → high ≤ m → accepted a → (l : List Pair) × (a ≡ listed l) × IsListOf (book .pairs) low high l
+    -- "and each floor during the hold, unless refused, exists and is at most m";
+    pub floor-owed : (bytes : List ℕ) → op ≡ probe-op (floor-op bytes) → accepted a → (f : ℕ) × (a ≡ frame-found f) × (f ≤ m)
+    -- a copy-back limit, which is at most the floor, then is at most m too
+    pub limit-owed : (bytes : List ℕ) → op ≡ probe-op (limit-op bytes) → accepted a → (l : ℕ) × (a ≡ value l) × (l ≤ m)
 
 -- Demand 3: under the premises, what is owed is there. One theorem over every sequence of calls, for every hold in it.
 unfoldable pub Demand3 : Type 0

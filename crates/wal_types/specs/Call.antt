@@ -36,6 +36,44 @@ pub data Answer : Type 0 where
   -- a reader's slot, with its owner and mark
   slot-taken : ℕ → ℕ → ℕ → Answer
 
+-- A refusal; and an answer that is none.
+pub data Refused : Answer → Type 0 where
+  turned-away : {n : ℕ} → Refused (refused n)
+
+abbrev pub accepted : Answer → Type 0
+accepted a = Refused a → ⊥
+
+-- What is made of an answer, by what is told apart in definitions: a refusal, a slot, a frame, the pairs of a list, a dropped
+-- record, and any other.
+abbrev pub by-answer : {A : Type 0} → (ℕ → A) → (ℕ → ℕ → ℕ → A) → (ℕ → A) → (List Pair → A) → A → A → Answer → A
+by-answer away slot frame pairs drop other (refused n) = away n
+by-answer away slot frame pairs drop other (slot-taken i owner mark) = slot i owner mark
+by-answer away slot frame pairs drop other (frame-found f) = frame f
+by-answer away slot frame pairs drop other (listed l) = pairs l
+by-answer away slot frame pairs drop other dropped = drop
+by-answer away slot frame pairs drop other ok = other
+by-answer away slot frame pairs drop other (flag t) = other
+by-answer away slot frame pairs drop other (value n) = other
+by-answer away slot frame pairs drop other stored = other
+by-answer away slot frame pairs drop other (kept n) = other
+by-answer away slot frame pairs drop other none = other
+
+-- each of them or not
+abbrev pub if-refused : {A : Type 0} → (ℕ → A) → A → Answer → A
+if-refused away other = by-answer away (λ i owner mark. other) (λ f. other) (λ l. other) other other
+
+abbrev pub if-slot : {A : Type 0} → (ℕ → ℕ → ℕ → A) → A → Answer → A
+if-slot slot other = by-answer (λ n. other) slot (λ f. other) (λ l. other) other other
+
+abbrev pub if-frame : {A : Type 0} → (ℕ → A) → A → Answer → A
+if-frame frame other = by-answer (λ n. other) (λ i owner mark. other) frame (λ l. other) other other
+
+abbrev pub if-listed : {A : Type 0} → (List Pair → A) → A → Answer → A
+if-listed pairs other = by-answer (λ n. other) (λ i owner mark. other) (λ f. other) pairs other other
+
+abbrev pub if-dropped : {A : Type 0} → A → A → Answer → A
+if-dropped drop other = by-answer (λ n. other) (λ i owner mark. other) (λ f. other) (λ l. other) drop other
+
 -- What a call does to the memory and the process that it finds.
 pub record Outcome : Type 0 where
   pub answer : Answer

@@ -1,0 +1,25 @@
+-- Calls that only look: they store nothing and leave their process as it was. Assumes nothing.
+use mathlib.Core.Path.{refl}
+use mathlib.Core.List.{[]}
+use Prim.Native.Nat.{ℕ}
+use Rattle.wal_types.specs.Call.{listed, does}
+use Rattle.wal_types.proofs.Every.{Reads, reads-unless}
+use Rattle.index_find.specs.declared.find.Watermark.{Watermark}
+use Rattle.index_find.specs.Index.{index-tests}
+use Rattle.index_find.specs.Find.{find-answer, find-frame}
+use Rattle.list_latest.specs.Latest.{list-tests, pairs-of, listed-entries, iter-latest-frames}
+use Rattle.sequence.specs.Sequence.{Settings, LookOp, find-op, list-op, look}
+
+find-looks : (capacity b page low high : ℕ) (w : Watermark) → Reads (find-frame capacity b page low high w)
+unfolding find-frame
+find-looks capacity b page low high w = reads-unless (λ m p. index-tests capacity b m) (λ m. does (find-answer page low high w m) (λ z. []) m) (λ m p. (refl, refl))
+
+list-looks : (capacity b low high room-pages room-frames : ℕ) → Reads (iter-latest-frames capacity b low high room-pages room-frames)
+unfolding iter-latest-frames
+list-looks capacity b low high room-pages room-frames =
+    reads-unless (λ m p. list-tests capacity b low high room-pages room-frames m) (λ m. does (listed (pairs-of m (listed-entries low high m))) (λ z. []) m) (λ m p. (refl, refl))
+
+-- EACH CALL of the family
+pub only-looks : (s : Settings) (o : LookOp) → Reads (look s o)
+only-looks s (find-op page low high w) = find-looks (s .capacity) (s .max-blocks) page low high w
+only-looks s (list-op low high room-pages room-frames) = list-looks (s .capacity) (s .max-blocks) low high room-pages room-frames
