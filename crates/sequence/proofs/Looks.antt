@@ -1,18 +1,18 @@
 -- Calls that only look: they store nothing and leave their process as it was. Assumes nothing.
-use mathlib.Core.Path.{_≡_, refl, sym, ap, subst}
+use mathlib.Core.Path.{_≡_, refl, sym, subst}
 use mathlib.Core.List.{List, []}
 use Prim.Native.Nat.{ℕ, zero, suc}
 use Rattle.wal_types.specs.Memory.{Memory, Process}
 use Rattle.wal_types.specs.Store.{Store, apply}
 use Rattle.wal_types.specs.Refusal.{Test, lowest}
-use Rattle.wal_types.specs.Call.{Call, Answer, Outcome, listed, does, accepted-or, unless, after}
+use Rattle.wal_types.specs.Call.{Call, Answer, Outcome, listed, does, accepted-or, unless, done}
 use Rattle.index_find.specs.declared.find.Watermark.{Watermark}
 use Rattle.index_find.specs.Index.{index-tests}
 use Rattle.index_find.specs.Find.{find-answer, find-frame}
 use Rattle.list_latest.specs.Latest.{list-tests, pairs-of, listed-entries, iter-latest-frames}
 use Rattle.sequence.specs.Sequence.{Settings, LookOp, find-op, list-op, look}
 use Rattle.sequence.proofs.IndexAside.{Untouched, LeavesIndex}
-use Rattle.sequence.proofs.SlotsAside.{LeavesSlots}
+use Rattle.sequence.proofs.SlotsAside.{Leaves, LeavesSlots, changes-nothing}
 
 pub record OnlyLooks (p : Process) (o : Outcome) : Type 0 where
   no-stores : o .stores ≡ []
@@ -51,12 +51,6 @@ looks-beside call x m p =
 
 pub looks-leaves : (call : Call) → Looks call → LeavesSlots call
 looks-leaves call x m p =
-    let e = x m p .no-stores in
-    let q = x m p .same-process in
-    record {
-      bits-left = ap (λ (l : List Store). apply l m .bitmap) e;
-      frames-left = ap (λ (l : List Store). apply l m .reader-frames) e;
-      owners-left = ap (λ (l : List Store). apply l m .reader-owners) e;
-      locals-left = ap (λ (y : Process). y .local-readers) q;
-      registry-left = ap (λ (y : Process). y .registry) q;
-    }
+    let a = call m p .answer in
+    subst (λ (l : List Store). Leaves m p (done a (apply l m) (call m p .process))) (sym (x m p .no-stores))
+    (subst (λ (y : Process). Leaves m p (done a m y)) (sym (x m p .same-process)) (changes-nothing m p a))
