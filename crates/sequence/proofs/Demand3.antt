@@ -6,7 +6,7 @@ use mathlib.Core.Logic.{_⊎_}
 use Prim.Native.Nat.{ℕ, _≤_}
 use lib.ListN.{getD}
 use Rattle.wal_types.specs.Settings.{unused}
-use Rattle.wal_types.specs.Call.{Pair, Answer, value, frame-found, listed, accepted, Done, after}
+use Rattle.wal_types.specs.Call.{Pair, value, frame-found, listed, accepted, Done, after}
 use Rattle.index_find.specs.declared.find.Watermark.the-variants.{NoWatermark}
 use Rattle.index_find.specs.Find.{lookup-answer}
 use Rattle.reader_slots.specs.Slots.{held}
@@ -14,12 +14,12 @@ use Rattle.index_grown.specs.Entries.{greatest}
 use Rattle.index_grown.specs.Listed.{IsListOf}
 use Rattle.sequence.specs.Sequence.{Settings, find-op, list-op, floor-op, limit-op, Op, look-op, probe-op, perform, World, Event, answer-of}
 use Rattle.sequence.specs.Hold.{Kind}
-use Rattle.sequence.specs.Statement.{at-now, book, Premises, Owed, Demand3}
+use Rattle.sequence.specs.Statement.{at-now, book, Premises, Demand3}
 use Rattle.sequence.proofs.IndexAnswers.{find-seen, list-seen}
 use Rattle.sequence.proofs.ReadersInv.{Standing}
 use Rattle.sequence.proofs.ReadersHold.{mark-stays}
 use Rattle.sequence.proofs.ReadersFloor.{floor-bound, limit-bound}
-use Rattle.sequence.proofs.HoldLasts.{mark-there, Reached, reached}
+use Rattle.sequence.proofs.HoldLasts.{Reached, reached}
 
 module _ (s : Settings) (start : ℕ) (fresh : World) (before : List Event) (begin : Event) (during : List Event) (now : Event) (kind : Kind) (i m : ℕ) (given : Premises s start fresh before begin during now kind i m) where
   abbrev world : World
@@ -28,7 +28,7 @@ module _ (s : Settings) (start : ℕ) (fresh : World) (before : List Event) (beg
   abbrev pairs : List Pair
   pairs = book s start fresh before begin during now kind i m .pairs
 
-  abbrev here : Reached s kind (begin .who) i m (given .at-least-one) pairs (mark-there s start fresh before begin during now kind i m given) now world
+  abbrev here : Reached s (begin .who) i m pairs now world
   here = reached s start fresh before begin during now kind i m given
 
   -- what the call now comes to, with its op named

@@ -12,7 +12,7 @@ use Rattle.wal_types.specs.declared.Header.{Header}
 use Rattle.wal_types.specs.declared.SharedWalOwnershipMode.the-variants.{LinuxOfd}
 use Rattle.wal_types.specs.Settings.{unused}
 use Rattle.wal_types.specs.Memory.{Memory, Process, with-header, with-local-readers, with-registry, no-mark, blank-process, slot-bit, bit-at}
-use Rattle.wal_types.specs.Call.{Pair, pair, Answer, refused, ok, value, stored, kept, frame-found, listed, slot-taken, Refused, accepted, Done, done, after}
+use Rattle.wal_types.specs.Call.{Pair, pair, Answer, refused, ok, value, stored, kept, frame-found, listed, slot-taken, accepted, Done, done, after}
 use Rattle.reader_bitmap.specs.Bit.{clear-bit}
 use Rattle.header_publish.specs.Publish.{publish-commit}
 use Rattle.index_end.specs.declared.place.Place.the-variants.{AtEnd}

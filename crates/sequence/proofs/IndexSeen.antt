@@ -22,7 +22,7 @@ use Rattle.index_grown.proofs.Lists.{up-to-keeps, up-to-only}
 use Rattle.index_grown.proofs.Records.{record-elsewhere}
 use Rattle.index_grown.proofs.Rollbacks.{rollback-leaves, rollback-elsewhere}
 use Rattle.index_grown.proofs.Views.{SameView, record-view, rollback-view}
-use Rattle.sequence.specs.Sequence.{Settings, Op, perform, World, Event, next}
+use Rattle.sequence.specs.Sequence.{Settings, Op, perform, World, Event, by, next}
 use Rattle.sequence.specs.Book.{Book, InPairs, here, there}
 use Rattle.sequence.specs.Hold.{rolls-back, KeepsAbove}
 use Rattle.sequence.proofs.IndexAside.{Untouched, untouched-by}
@@ -125,7 +125,7 @@ module _ (s : Settings) (mark : ℕ) (least : 1 ≤ mark) (es : List Pair) (at :
       p : Process
       p = w .processes (e .who)
 
-      go : (op : Op) → KeepsAbove s mark (record { who = e .who; op = op }) w → ToIndex s op → Keeps mark m (after (perform s op) m p .memory)
+      go : (op : Op) → KeepsAbove s mark (by (e .who) op) w → ToIndex s op → Keeps mark m (after (perform s op) m p .memory)
       go op above (records {page} {frame} {grow}) = record-keeps page frame grow m p b stands seen
       go op above (rolls {bound}) = rollback-keeps bound m p b stands (above bound rolls-back)
       go op above (publishes {frame} {c1} {c2} {count}) =

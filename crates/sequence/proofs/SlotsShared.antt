@@ -1,13 +1,13 @@
 -- The changes that shared registrations and releases make. Assumes nothing.
 use mathlib.Core.Path.{_≡_, refl, ap, _∙_, subst}
-use mathlib.Core.Bool.{Bool, true, false, _&&_, cond}
+use mathlib.Core.Bool.{Bool, true, false, cond}
 use mathlib.Core.List.{List, []}
-use Prim.Native.Nat.{ℕ, _+_, _-_, _<_, _≤_}
+use Prim.Native.Nat.{ℕ, _-_, _<_, _≤_}
 use native.Mathlib.Omega.{arith}
 use lib.Dec.{eqb, ltb}
 use lib.ListN.{length, getD}
 use lib.Seq.{getD-set-same, getD-set-other}
-use borrow.Author.Tests.{ltb-false, eqb-true, eqb-false, eq-eqb, ne-eqb, not-false}
+use borrow.Author.Tests.{ltb-false, eqb-true, eqb-false, ne-eqb, not-false}
 use Rattle.wal_types.specs.declared.SharedReadMark.{SharedReadMark}
 use Rattle.wal_types.specs.declared.SharedWalOwnershipMode.{SharedWalOwnershipMode}
 use Rattle.wal_types.specs.Memory.{Memory, Process, no-mark}
@@ -19,7 +19,6 @@ use Rattle.reader_slots.specs.declared.slots.Slot.the-variants.{At as SlotAt, N
 use Rattle.reader_slots.specs.Slots.{short-slots, with-local}
 use Rattle.reader_register.specs.Register.{chosen-slot, slot-answer, hold-found, registers, register-tests, register-reader}
 use Rattle.reader_moves.specs.Update.{releases-slot}
-use Rattle.reader_slots.proofs.Cells.{and-true, and-false}
 use Rattle.reader_slots.proofs.Kept.{slot-same, emptied-other}
 use Rattle.reader_register.proofs.Taken.{TookSlot, register-took}
 use Rattle.reader_marks.specs.declared.Record.{Record}
@@ -30,7 +29,7 @@ use Rattle.sequence.specs.Sequence.{share-op, unshare-op, shared-op}
 use Rattle.sequence.specs.Hold.{counted}
 use Rattle.sequence.proofs.SlotsAside.{by-tests}
 use Rattle.sequence.proofs.SlotsCells.{not-both, neither-true, both-true, none-applies, rec-at, Fitting, record-found, NoRecord, record-missing, empty-found}
-use Rattle.sequence.proofs.SlotsStep.{HeldKept, HeldStay, OtherRecords, Uncounted, Adds, Drops, Step, quiet, joined, opened, left, closed, nothing-done, other-held, register-done, register-held, register-stay}
+use Rattle.sequence.proofs.SlotsStep.{HeldKept, HeldStay, OtherRecords, Step, quiet, joined, opened, left, closed, nothing-done, other-held, register-done, register-held, register-stay}
 
 -- a count that stays whether the mark is its own or not
 either-way : (t : Bool) (c : ℕ) → cond t c c ≡ c

@@ -10,7 +10,7 @@ use Rattle.wal_types.specs.Memory.{Memory, Process, with-header, with-index, wi
 use Rattle.wal_types.specs.Fresh.{fresh-header}
 use Rattle.wal_types.specs.Call.{pair, Answer, refused, ok, value, stored, kept, frame-found, listed, slot-taken}
 use Rattle.index_find.specs.declared.find.Watermark.the-variants.{NoWatermark}
-use Rattle.sequence.specs.Sequence.{Settings, find-op, list-op, record-op, rollback-op, floor-op, limit-op, register-op, release-op, share-op, unshare-op, Op, look-op, index-op, commit-op, probe-op, slot-op, shared-op, World, Event, answer-of, next}
+use Rattle.sequence.specs.Sequence.{Settings, find-op, list-op, record-op, rollback-op, floor-op, limit-op, register-op, release-op, share-op, unshare-op, Op, look-op, index-op, commit-op, probe-op, slot-op, shared-op, World, Event, by, answer-of, next}
 use Rattle.sequence.specs.Hold.{direct, shared}
 use Rattle.sequence.specs.Statement.{at-now, Premises}
 
@@ -36,10 +36,10 @@ fresh-world = record { memory = fresh-memory; processes = λ who. fresh-process 
 
 -- process 0 reads, process 1 writes
 abbrev pub reader : Op → Event
-reader op = record { who = 0; op = op }
+reader = by 0
 
 abbrev pub writer : Op → Event
-writer op = record { who = 1; op = op }
+writer = by 1
 
 -- Three frames are written and published;
 abbrev pub before : List Event

@@ -8,7 +8,7 @@ use lib.ListN.{getD}
 use Rattle.wal_types.specs.Settings.{unused}
 use Rattle.wal_types.specs.Memory.{Memory, slot-bit}
 use Rattle.wal_types.specs.Call.{Answer, slot-taken, accepted, if-refused, if-slot}
-use Rattle.sequence.specs.Sequence.{Settings, rollback-op, register-op, move-op, release-op, share-op, unshare-op, Op, look-op, index-op, commit-op, header-op, probe-op, slot-op, shared-op, World, Event, answer-of, next, Throughout}
+use Rattle.sequence.specs.Sequence.{Settings, rollback-op, register-op, move-op, release-op, share-op, unshare-op, Op, look-op, index-op, commit-op, header-op, probe-op, slot-op, shared-op, World, Event, by, answer-of, next, Throughout}
 
 -- How many registrations of a process's shared hold at a mark are not yet released, after one more call of that process: a
 -- shared registration that answers a slot adds one, an accepted shared release takes one away.
@@ -37,8 +37,8 @@ pub data Kind : Type 0 where
 -- The call e, made in world w with so many holders of its process at its mark, begins a hold of this kind at mark m on slot i: a
 -- register call that answers a slot; but a shared one only if its process has no shared hold at that mark.
 pub data Begins (s : Settings) (w : World) (holders : ℕ) : Event → Kind → ℕ → ℕ → Type 0 where
-  begins-direct : {who i m owner o : ℕ} {bytes : List ℕ} → answer-of s (record { who = who; op = slot-op (register-op owner m bytes) }) w ≡ slot-taken i o m → Begins s w holders (record { who = who; op = slot-op (register-op owner m bytes) }) direct i m
-  begins-shared : {who i m owner o : ℕ} {bytes : List ℕ} → answer-of s (record { who = who; op = shared-op (share-op owner m bytes) }) w ≡ slot-taken i o m → holders ≡ 0 → Begins s w holders (record { who = who; op = shared-op (share-op owner m bytes) }) shared i m
+  begins-direct : {who i m owner o : ℕ} {bytes : List ℕ} → answer-of s (by who (slot-op (register-op owner m bytes))) w ≡ slot-taken i o m → Begins s w holders (by who (slot-op (register-op owner m bytes))) direct i m
+  begins-shared : {who i m owner o : ℕ} {bytes : List ℕ} → answer-of s (by who (shared-op (share-op owner m bytes))) w ≡ slot-taken i o m → holders ≡ 0 → Begins s w holders (by who (shared-op (share-op owner m bytes))) shared i m
 
 -- A direct hold of slot i at mark m ends with its process's accepted release of the slot, or accepted move to another mark.
 pub data Ending (i m : ℕ) (a : Answer) : Op → Type 0 where

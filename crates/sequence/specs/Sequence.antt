@@ -121,6 +121,9 @@ pub record Event : Type 0 where
   pub who : ℕ
   pub op : Op
 
+abbrev pub by : ℕ → Op → Event
+by who op = record { who = who; op = op }
+
 -- what the call answers
 abbrev pub answer-of : Settings → Event → World → Answer
 answer-of s e w = after (perform s (e .op)) (w .memory) (w .processes (e .who)) .answer
