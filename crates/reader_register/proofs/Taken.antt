@@ -29,6 +29,7 @@ use Rattle.reader_slots.specs.Inner.{slots-refusal, emptied-if}
 use Rattle.reader_slots.proofs.Calls.{apply-append, refuses, accepts, Enough, enough}
 use Rattle.reader_slots.proofs.Lowest.{found-below, lowest-at}
 use Rattle.reader_slots.proofs.Kept.{SlotSame, slot-same, slot-same-then, taken-other}
+use Rattle.reader_register.proofs.Registered.{all-pass}
 use Rattle.reader_register.proofs.Kept.{reclaim-keeps}
 
 -- the lists have as many cells as before
@@ -63,14 +64,6 @@ found-unheld n bytes p m i e = (unheld (held p i) (is-free m i) (granted bytes i
 from-either : (a c : Slot) (i : ℕ) → either-slot a c ≡ At i → (a ≡ At i) ⊎ (c ≡ At i)
 from-either (At j) c i e = inl e
 from-either Nothing c i e = inr e
-
--- the tests of a call that is accepted
-all-pass : (s h a b c : Bool) → _≡_ {A = ℕ} (cond s 1 (cond h 2 (cond a 9 (cond b 10 (cond c 14 0))))) 0 → (_≡_ {A = ℕ} (cond s 1 (cond h 2 0)) 0) × ((a ≡ false) × (b ≡ false))
-all-pass true h a b c e = absurd (omega arith)
-all-pass false true a b c e = absurd (omega arith)
-all-pass false false true b c e = absurd (omega arith)
-all-pass false false false true c e = absurd (omega arith)
-all-pass false false false false c e = (refl, (refl, refl))
 
 -- What is so of the slot i that register_reader has answered: before it, in the memory m′ after it, and in the process p′.
 pub record TookSlot (n owner mark i : ℕ) (p : Process) (m′ : Memory) (p′ : Process) : Type 0 where
@@ -136,7 +129,7 @@ module _ (n : ℕ) (mode : SharedWalOwnershipMode) (owner mark : ℕ) (bytes : L
         below = a .1;
         was-free = a .0;
         owned = eqb-false owner 0 (t .0);
-        used = eqb-false mark unused (t .1);
+        used = eqb-false mark unused (t .1 .0);
         frame-is = getD-set-same (reclaimed .reader-frames) i mark unused (omega (arith, a .1));
         owner-is = getD-set-same (reclaimed .reader-owners) i owner 0 (omega (arith, a .1));
         bit-is = rw (getD-set-same (reclaimed .bitmap) (i / 64) (clear-bit (getD (reclaimed .bitmap) (i / 64) 0) (i % 64)) 0 w) (clear-same (i % 64) (getD (reclaimed .bitmap) (i / 64) 0));

@@ -2,10 +2,12 @@
 use mathlib.Core.Path.{_≡_, refl, sym, _∙_}
 use mathlib.Core.Bool.{Bool, true, false}
 use mathlib.Core.List.{List}
-use Prim.Native.Nat.{ℕ, zero, suc, _+_, _/_, _%_, _<_}
+use mathlib.Core.Logic.{inl, inr}
+use Prim.Native.Nat.{ℕ, zero, suc, _+_, _/_, _%_, _<_, _≤_}
+use native.Mathlib.Nat.{eq-or-lt-of-le}
 use native.Mathlib.Decide.{ℕ-discrete, decLe}
 use native.Mathlib.Omega.{arith}
-use lib.ListN.{length, getD, set}
+use lib.ListN.{length, getD, set, length-set}
 use lib.Seq.{getD-set-same, getD-set-other, set-out}
 use Rattle.wal_types.specs.declared.SharedWalOwnershipMode.{SharedWalOwnershipMode}
 use Rattle.wal_types.specs.declared.SharedWalOwnershipMode.the-variants.{LinuxOfd, ProcessScopedFcntl}
@@ -66,19 +68,6 @@ taken-other i j owner mark m f =
       bit-same = other-bit (m .bitmap) i j (clear-bit (getD (m .bitmap) (i / 64) 0) (i % 64)) (λ k g. clear-other (i % 64) k (getD (m .bitmap) (i / 64) 0) g) f;
     }
 
--- slots that a test never picks keep their cells
-module _ (mode : SharedWalOwnershipMode) (test : Memory → ℕ → Bool) (j : ℕ) (never : (x : Memory) → test x j ≡ false) where
-  emptied-if-keeps : (t : Bool) (i : ℕ) (m : Memory) → test m i ≡ t → SlotSame j m (emptied-if mode t i m)
-  emptied-if-keeps true i m e = emptied-other mode i j m (λ q. let z : _≡_ {A = Bool} true false = sym e ∙ rw (← q) (never m) in let y : _≡_ {A = ℕ} 0 1 = cc in omega arith)
-  emptied-if-keeps false i m e = slot-same j m
-
-  pub emptied-keeps : (left i : ℕ) (m : Memory) → SlotSame j m (apply (empty-slots mode test left i m) m)
-  unfolding empty-slots
-  emptied-keeps zero i m = slot-same j m
-  emptied-keeps (suc left) i m =
-      rw (apply-append (when (test m i) (empty-slot mode i) m) (empty-slots mode test left (i + 1) (emptied-if mode (test m i) i m)) m)
-      (slot-same-then j m (emptied-if mode (test m i) i m) (apply (empty-slots mode test left (i + 1) (emptied-if mode (test m i) i m)) (emptied-if mode (test m i) i m)) (emptied-if-keeps (test m i) i m refl) (emptied-keeps left (i + 1) (emptied-if mode (test m i) i m)))
-
 -- another slot than i, whether slot i is emptied or not
 pub other-turn : (mode : SharedWalOwnershipMode) (t : Bool) (i j : ℕ) (m : Memory) → (j ≡ i → ⊥) → SlotSame j m (emptied-if mode t i m)
 other-turn mode true i j m f = emptied-other mode i j m f
@@ -97,3 +86,48 @@ passed-keeps mode test (suc left) i j m l =
 pub freed-bit : (mode : SharedWalOwnershipMode) (i : ℕ) (m : Memory) → i / 64 < length (m .bitmap) → slot-bit (apply (empty-slot mode i m) m .bitmap) i ≡ 1
 freed-bit LinuxOfd i m l = rw (getD-set-same (m .bitmap) (i / 64) (set-bit (getD (m .bitmap) (i / 64) 0) (i % 64)) 0 l) (set-same (i % 64) (getD (m .bitmap) (i / 64) 0))
 freed-bit ProcessScopedFcntl i m l = rw (getD-set-same (m .bitmap) (i / 64) (set-bit (getD (m .bitmap) (i / 64) 0) (i % 64)) 0 l) (set-same (i % 64) (getD (m .bitmap) (i / 64) 0))
+
+-- whether slot i is emptied or not, the bitmap has as many words as before
+words-kept : (mode : SharedWalOwnershipMode) (t : Bool) (i : ℕ) (m : Memory) → length (emptied-if mode t i m .bitmap) ≡ length (m .bitmap)
+words-kept LinuxOfd true i m = simp length-set
+words-kept ProcessScopedFcntl true i m = simp length-set
+words-kept mode false i m = refl
+
+impossible : _≡_ {A = Bool} true false → ⊥
+impossible e = let z : _≡_ {A = ℕ} 0 1 = cc in omega arith
+
+-- A pass whose test of slot j goes by that slot's cells alone treats the slot by the cells that it has before the pass.
+module _ (mode : SharedWalOwnershipMode) (test : Memory → ℕ → Bool) (j : ℕ) (by-cells : (m m′ : Memory) → SlotSame j m m′ → test m′ j ≡ test m j) where
+  -- not picked: it keeps its cells
+  passed-turn : (t : Bool) (i : ℕ) (m : Memory) → test m i ≡ t → test m j ≡ false → SlotSame j m (emptied-if mode t i m)
+  passed-turn true i m e f = emptied-other mode i j m (λ q. impossible (sym e ∙ rw (← q) f))
+  passed-turn false i m e f = slot-same j m
+
+  pub passed-over : (left i : ℕ) (m : Memory) → test m j ≡ false → SlotSame j m (apply (empty-slots mode test left i m) m)
+  unfolding empty-slots
+  passed-over zero i m f = slot-same j m
+  passed-over (suc left) i m f =
+      let x = emptied-if mode (test m i) i m in
+      let s = passed-turn (test m i) i m refl f in
+      rw (apply-append (when (test m i) (empty-slot mode i) m) (empty-slots mode test left (i + 1) x) m)
+      (slot-same-then j m x (apply (empty-slots mode test left (i + 1) x) x) s (passed-over left (i + 1) x (by-cells m x s ∙ f)))
+
+  -- picked: it is free afterwards
+  picked-turn : (t : Bool) (left : ℕ) (m : Memory) → t ≡ true → j / 64 < length (m .bitmap) → slot-bit (apply (empty-slots mode test left (j + 1) (emptied-if mode t j m)) (emptied-if mode t j m) .bitmap) j ≡ 1
+  picked-turn true left m e w = passed-keeps mode test left (j + 1) j (apply (empty-slot mode j m) m) (omega arith) .bit-same ∙ freed-bit mode j m w
+  picked-turn false left m e w = absurd (impossible (sym e))
+
+  pub picked-free : (left i : ℕ) (m : Memory) → i ≤ j → j < i + left → test m j ≡ true → j / 64 < length (m .bitmap) → slot-bit (apply (empty-slots mode test left i m) m .bitmap) j ≡ 1
+  unfolding empty-slots
+  picked-free zero i m a b e w = absurd (omega arith)
+  picked-free (suc left) i m a b e w =
+      let x = emptied-if mode (test m i) i m in
+      rw (apply-append (when (test m i) (empty-slot mode i) m) (empty-slots mode test left (i + 1) x) m)
+      (elim (eq-or-lt-of-le a) [
+        | inl q ↦ rw q (picked-turn (test m j) left m e w)
+        | inr q ↦ picked-free left (i + 1) x (omega arith) (omega arith) (by-cells m x (other-turn mode (test m i) i j m (λ r. omega arith)) ∙ e) (let z = words-kept mode (test m i) i m in omega arith)
+      ])
+
+-- a slot that the test never picks keeps its cells
+pub emptied-keeps : (mode : SharedWalOwnershipMode) (test : Memory → ℕ → Bool) (j : ℕ) → ((x : Memory) → test x j ≡ false) → (left i : ℕ) (m : Memory) → SlotSame j m (apply (empty-slots mode test left i m) m)
+emptied-keeps mode test j never left i m = passed-over mode test j (λ x x′ s. never x′ ∙ sym (never x)) left i m (never m)
