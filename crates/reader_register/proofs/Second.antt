@@ -17,7 +17,7 @@ use Rattle.reader_slots.specs.declared.slots.Slot.the-variants.{Nothing}
 use Rattle.reader_slots.specs.Slots.{held, is-free, granted}
 use Rattle.reader_slots.specs.Search.{lowest-slot}
 use Rattle.reader_slots.proofs.Emptied.{stores-nothing}
-use Rattle.reader_slots.proofs.Kept.{SlotSame, passed-over, picked-free}
+use Rattle.reader_slots.proofs.Kept.{SlotSame, aside-same, over-aside, picked-free}
 use Rattle.reader_slots.proofs.Lowest.{lowest-nothing, lowest-same}
 use Rattle.reader_register.specs.Register.{available, reclaimable, reclaim-all, first-slot, second-slot}
 
@@ -54,7 +54,7 @@ module _ (n : ℕ) (mode : SharedWalOwnershipMode) (bytes : List ℕ) (m : Memor
       where
         go : (t : Bool) → stale m j ≡ t → available bytes p reclaimed j ≡ t
         go true e = stale-then-free (is-free m j) (held p j) (granted bytes j) (not (is-fcntl mode && eqb (getD (m .reader-owners) j 0) 0)) (is-free reclaimed j) e (eq-eqb (slot-bit (reclaimed .bitmap) j) 1 (picked-free mode stale j (by-cells j) n 0 m (omega arith) (omega arith) e (words j l)))
-        go false e = rw (passed-over mode stale j (by-cells j) n 0 m e .bit-same) (lowest-nothing (available bytes p m) n 0 none-free j (omega arith) (omega arith))
+        go false e = rw (aside-same j m (reclaim-all n mode bytes p m) (over-aside mode stale j (by-cells j) n 0 m e) .bit-same) (lowest-nothing (available bytes p m) n 0 none-free j (omega arith) (omega arith))
 
     pub second-is-stale : second-slot n mode bytes m p ≡ stale-slot
     second-is-stale = lowest-same (available bytes p reclaimed) (stale m) n 0 (λ j a b. then-available j (omega arith))
