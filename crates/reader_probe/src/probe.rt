@@ -1,9 +1,9 @@
 // Probes that failed (refusal 15), looked for before anything is reclaimed, with the card's own refusal 14.
 use crate::live;
 use reader_slots::slots;
-use wal_types::DB_FILE_READER_FRAME;
 use wal_types::SharedOwnerRecord;
 use wal_types::SharedWalOwnershipMode;
+use wal_types::refusal;
 ghost use mathlib.Core.Path.{_≡_};
 ghost use Prim.Native.Nat.{_≤_};
 ghost use lib.ListN.{length};
@@ -69,19 +69,10 @@ fn is_db_file_slot(
 ) -> bool
     ensures { λ r. ⌜ r ≡ db-file-cell mode frame (owner .0) («local_owner» .0) card ⌝ }
 {
-    if live::is_skipped(mode, frame, owner) {
-        return false;
-    }
     if is_failed(mode, frame, owner, local_owner, card) {
         return false;
     }
-    if frame != DB_FILE_READER_FRAME {
-        return false;
-    }
-    if local_owner.0 != 0 {
-        return true;
-    }
-    card != 1
+    live::is_db_file_reader(live::slot_state(mode, frame, owner, local_owner, card))
 }
 
 // How many slots has_active_db_file_reader looks at: those before the first live one of mark 0.
@@ -123,17 +114,17 @@ pub fn floor_refusal(
     ensures { λ r. ⌜ r ≡ probe-refusal n mode (now (card .entry)) (now («reader_frames» .entry)) (now («reader_owners» .entry)) (now («local_readers» .entry)) n ⌝ }
 {
     if card.len() != n {
-        return 14;
+        return refusal::CARD;
     }
     let greatest = slots::greatest_byte(card);
     if 2 < greatest {
-        return 14;
+        return refusal::CARD;
     }
     if greatest < 2 {
         return 0;
     }
     if some_probe_failed(n, mode, reader_frames, reader_owners, local_readers, card) {
-        return 15;
+        return refusal::PROBE;
     }
     0
 }
@@ -151,11 +142,11 @@ pub fn db_file_refusal(
     ensures { λ r. ⌜ r ≡ probe-refusal n mode (now (card .entry)) (now («reader_frames» .entry)) (now («reader_owners» .entry)) (now («local_readers» .entry)) (looked-at n (lowest-slot (db-file-by mode (now (card .entry)) (now («reader_frames» .entry)) (now («reader_owners» .entry)) (now («local_readers» .entry))) n 0)) ⌝ }
 {
     if card.len() != n {
-        return 14;
+        return refusal::CARD;
     }
     let greatest = slots::greatest_byte(card);
     if 2 < greatest {
-        return 14;
+        return refusal::CARD;
     }
     if greatest < 2 {
         return 0;
@@ -169,7 +160,7 @@ pub fn db_file_refusal(
         local_readers,
         card,
     ) {
-        return 15;
+        return refusal::PROBE;
     }
     0
 }

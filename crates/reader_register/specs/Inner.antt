@@ -1,23 +1,37 @@
--- Words for the contracts of the inner functions, by the calls' own definitions. No contract of a call cites them. Assumes nothing.
-use mathlib.Core.Path.{_≡_}
-use mathlib.Core.List.{List}
-use Prim.Native.Nat.{ℕ, _<_}
+-- Words for the contracts of the inner functions: the call's tests, over single cells and lists. No contract of a call cites
+-- them. Assumes nothing.
+use mathlib.Core.Bool.{Bool, not, _&&_}
+use mathlib.Core.List.{List, [], _∷_}
+use Prim.Native.Nat.{ℕ}
+use lib.Dec.{eqb}
+use lib.ListN.{getD}
 use Rattle.wal_types.specs.declared.SharedWalOwnershipMode.{SharedWalOwnershipMode}
-use Rattle.wal_types.specs.Memory.{Memory, Process}
-use Rattle.wal_types.specs.Store.{apply}
-use Rattle.reader_slots.specs.declared.slots.Slot.{Slot}
-use Rattle.reader_slots.specs.declared.slots.Slot.the-variants.{At}
-use Rattle.reader_slots.specs.Slots.{slots-in, locals-in}
-use Rattle.reader_register.specs.Register.{first-slot, chosen-slot, reclaim-unless}
+use Rattle.wal_types.specs.Settings.{slots-in-limits, unused, is-fcntl}
+use Rattle.wal_types.specs.Memory.{slot-bit}
+use Rattle.wal_types.specs.Refusal.{_if_, lowest, settings, short-memory, no-owner, unused-mark, card}
+use Rattle.wal_types.specs.Call.{Answer}
+use Rattle.reader_slots.specs.Slots.{shorter, bad-card, ReaderCall}
+use Rattle.reader_register.specs.Register.{registers}
 
--- Any memory with the lists b, f and o in it and any process with the local owners l: the slot r is chosen, and the memory
--- becomes the one with b′, f′ and o′, with every stale slot reclaimed if it had to be.
-unfoldable pub Chosen : ℕ → SharedWalOwnershipMode → List ℕ → List ℕ → List ℕ → List ℕ → List ℕ → Slot → List ℕ → List ℕ → List ℕ → Type 0
-Chosen n mode bytes b f o l r b′ f′ o′ =
-    (z : Memory) (p : Process) →
-    (chosen-slot n mode bytes (slots-in z b f o) (locals-in p l) ≡ r)
-    × (apply (reclaim-unless n mode bytes (locals-in p l) (first-slot n bytes (slots-in z b f o) (locals-in p l)) (slots-in z b f o)) (slots-in z b f o) ≡ slots-in z b′ f′ o′)
+-- a slot that is reclaimed, by its cells and by lists
+abbrev pub stale-cell : SharedWalOwnershipMode → ℕ → ℕ → ℕ → ℕ → Bool
+stale-cell mode bit owner local byte = not (eqb bit 1) && not (not (eqb local 0)) && eqb byte 1 && not (is-fcntl mode && eqb owner 0)
 
--- a slot found is below n
-abbrev pub Below : ℕ → Slot → Type 0
-Below n r = (i : ℕ) → r ≡ At i → i < n
+abbrev pub stale-by : SharedWalOwnershipMode → List ℕ → List ℕ → List ℕ → List ℕ → ℕ → Bool
+stale-by mode bytes b o l i = stale-cell mode (slot-bit b i) (getD o i 0) (getD l i 0) (getD bytes i 0)
+
+-- the number of the refusal, 0 for none
+unfoldable pub register-refusal : ℕ → ℕ → ℕ → ℕ → ℕ → ℕ → ℕ → List ℕ → ℕ
+register-refusal n words frames owners locals owner mark bytes =
+    lowest
+    ((settings if not (slots-in-limits n))
+    ∷ (short-memory if shorter n words frames owners locals)
+    ∷ (no-owner if eqb owner 0)
+    ∷ (unused-mark if eqb mark unused)
+    ∷ (card if bad-card n bytes)
+    ∷ [])
+
+-- register_reader where none of its refusals applies: on any memory with the lists b, f and o in it, by any process with the
+-- local owners l, it answers a, leaves the lists b′, f′, o′ and l′, and changes nothing else.
+unfoldable pub RegistersCall : ℕ → SharedWalOwnershipMode → ℕ → ℕ → List ℕ → List ℕ → List ℕ → List ℕ → List ℕ → Answer → List ℕ → List ℕ → List ℕ → List ℕ → Type 0
+RegistersCall n mode owner mark bytes b f o l a b′ f′ o′ l′ = ReaderCall (registers n mode owner mark bytes) b f o l a b′ f′ o′ l′

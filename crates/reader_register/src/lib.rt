@@ -1,2 +1,3 @@
 // A reader that takes a slot.
 pub mod register;
+pub mod stale;

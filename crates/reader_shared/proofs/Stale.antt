@@ -23,7 +23,7 @@ use Rattle.reader_slots.specs.Inner.{emptied-if}
 use Rattle.reader_slots.proofs.Calls.{apply-append}
 use Rattle.reader_slots.proofs.Lowest.{lowest-nothing}
 use Rattle.reader_slots.proofs.Kept.{SlotSame, other-turn, passed-keeps, freed-bit}
-use Rattle.reader_register.proofs.None.{stale-then-free}
+use Rattle.reader_register.proofs.Second.{stale-then-free}
 
 impossible : _≡_ {A = Bool} true false → ⊥
 impossible e = let z : _≡_ {A = ℕ} 0 1 = cc in omega arith

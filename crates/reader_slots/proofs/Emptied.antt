@@ -1,8 +1,9 @@
 -- The stores that empty slots, as lists: the memory after them. Assumes nothing.
 use mathlib.Core.Path.{_≡_, refl, sym, _∙_}
-use mathlib.Core.Bool.{Bool}
-use mathlib.Core.List.{List}
-use Prim.Native.Nat.{ℕ, suc, _+_, _/_, _%_}
+use mathlib.Core.Bool.{Bool, false}
+use mathlib.Core.List.{List, []}
+use Prim.Native.Nat.{ℕ, zero, suc, _+_, _/_, _%_, _<_, _≤_}
+use native.Mathlib.Omega.{arith}
 use lib.ListN.{getD, set}
 use Rattle.wal_types.specs.declared.SharedWalOwnershipMode.{SharedWalOwnershipMode}
 use Rattle.wal_types.specs.declared.SharedWalOwnershipMode.the-variants.{LinuxOfd, ProcessScopedFcntl}
@@ -49,3 +50,9 @@ module _ (mode : SharedWalOwnershipMode) (test : Memory → ℕ → Bool) (left 
 pub emptied-whole : (mode : SharedWalOwnershipMode) (test : Memory → ℕ → Bool) (left i : ℕ) (m : Memory) → emptied mode test left i m ≡ apply (empty-slots mode test left i m) m
 unfolding emptied
 emptied-whole mode test left i m = refl
+
+-- a pass that picks no slot stores nothing
+pub stores-nothing : (mode : SharedWalOwnershipMode) (test : Memory → ℕ → Bool) (left i : ℕ) (m : Memory) → ((j : ℕ) → i ≤ j → j < i + left → test m j ≡ false) → empty-slots mode test left i m ≡ []
+unfolding empty-slots
+stores-nothing mode test zero i m h = refl
+stores-nothing mode test (suc left) i m h = rw (h i (omega arith) (omega arith)) (stores-nothing mode test left (i + 1) m (λ j a b. h j (omega arith) (omega arith)))

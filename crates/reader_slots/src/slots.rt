@@ -3,6 +3,7 @@ use wal_types::SharedOwnerRecord;
 use wal_types::SharedWalOwnershipMode;
 use wal_types::UNOWNED_LOCK;
 use wal_types::UNUSED_READER_FRAME;
+use wal_types::refusal;
 ghost use mathlib.Core.Path.{_≡_};
 ghost use mathlib.Core.Bool.{_&&_};
 ghost use Prim.Native.Nat.{_/_, _%_, _<_, max};
@@ -43,30 +44,30 @@ pub fn is_ownerless(mode: SharedWalOwnershipMode, owner: SharedOwnerRecord) -> b
 // Refusal 1 or 2, by the lengths of the lent parts; 0 for neither.
 pub fn slots_refusal(
     n: usize,
-    bitmap: usize,
-    reader_frames: usize,
-    reader_owners: usize,
-    local_readers: usize,
+    bitmap_len: usize,
+    reader_frames_len: usize,
+    reader_owners_len: usize,
+    local_readers_len: usize,
 ) -> u32
-    ensures { λ r. ⌜ r ≡ slots-refusal n bitmap «reader_frames» «reader_owners» «local_readers» ⌝ }
+    ensures { λ r. ⌜ r ≡ slots-refusal n «bitmap_len» «reader_frames_len» «reader_owners_len» «local_readers_len» ⌝ }
 {
     if n < 1 {
-        return 1;
+        return refusal::SETTINGS;
     }
     if 256 < n {
-        return 1;
+        return refusal::SETTINGS;
     }
-    if bitmap < (n + 63) / 64 {
-        return 2;
+    if bitmap_len < (n + 63) / 64 {
+        return refusal::SHORT_MEMORY;
     }
-    if reader_frames < n {
-        return 2;
+    if reader_frames_len < n {
+        return refusal::SHORT_MEMORY;
     }
-    if reader_owners < n {
-        return 2;
+    if reader_owners_len < n {
+        return refusal::SHORT_MEMORY;
     }
-    if local_readers < n {
-        return 2;
+    if local_readers_len < n {
+        return refusal::SHORT_MEMORY;
     }
     0
 }

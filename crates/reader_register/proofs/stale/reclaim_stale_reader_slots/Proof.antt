@@ -9,8 +9,8 @@ use Prim.Native.Nat.{_-_, _≤_}
 use mathlib.Core.Path.{_≡_, _∙_}
 use native.Mathlib.Omega.{arith}
 use borrow.Author.Needs.{needs}
-use Rattle.reader_register.proofs.register.reclaim_stale_reader_slots.Statement.{statement}
-use Rattle.reader_register.proofs.register.reclaim_stale_reader_slots.Tie as tie
+use Rattle.reader_register.proofs.stale.reclaim_stale_reader_slots.Statement.{statement}
+use Rattle.reader_register.proofs.stale.reclaim_stale_reader_slots.Tie as tie
 
 abbrev Inv-loop : tie.InvT-loop
 Inv-loop n mode bitmap₀ reader-frames₀ reader-owners₀ local-readers card slot₀ bitmap reader-frames reader-owners slot = (slot ≤ n) × (((length bitmap ≡ length bitmap₀) × ((length reader-frames ≡ length reader-frames₀) × (length reader-owners ≡ length reader-owners₀))) × ((z : Memory) (p : Process) → emptied mode (reclaimable mode card (locals-in p local-readers)) (n - slot) slot (slots-in z bitmap reader-frames reader-owners) ≡ emptied mode (reclaimable mode card (locals-in p local-readers)) n 0 (slots-in z bitmap₀ reader-frames₀ reader-owners₀)))
