@@ -32,7 +32,7 @@ pub extern "C" fn wal_record_frame(
 ) -> IndexReply
     ensures { λ r. ⌜ IndexReplied (record-frame capacity «max_blocks» «page_id» «frame_id» (not (eqb grow 0))) (now (header .entry)) (now (pages .entry)) (now (frames .entry)) (now (hash .entry)) r (now (header .exit)) (now (pages .exit)) (now (frames .exit)) (now (hash .exit)) ⌝ }
 {
-    let cells = index_reply::record_frame(
+    let done = index_reply::record_frame(
         capacity,
         max_blocks,
         *header,
@@ -43,7 +43,7 @@ pub extern "C" fn wal_record_frame(
         frame_id,
         grow,
     );
-    let left = index_reply::left(*header, cells);
+    let left = index_reply::left(*header, done);
     *header = left.header;
     left.reply
 }
@@ -61,7 +61,7 @@ pub extern "C" fn wal_rollback_frames(
 ) -> IndexReply
     ensures { λ r. ⌜ IndexReplied (rollback-frames capacity «max_blocks» «max_frame») (now (header .entry)) (now (pages .entry)) (now (frames .entry)) (now (hash .entry)) r (now (header .exit)) (now (pages .entry)) (now (frames .entry)) (now (hash .exit)) ⌝ }
 {
-    let cells = index_reply::rollback_frames(
+    let done = index_reply::rollback_frames(
         capacity,
         max_blocks,
         *header,
@@ -70,7 +70,7 @@ pub extern "C" fn wal_rollback_frames(
         hash,
         max_frame,
     );
-    let left = index_reply::left(*header, cells);
+    let left = index_reply::left(*header, done);
     *header = left.header;
     left.reply
 }

@@ -1,4 +1,3 @@
 -- Laws of the replies.
-mod IndexStores
 mod IndexReplies
 mod NoFrame

@@ -4,39 +4,21 @@ use mathlib.Core.List.{List}
 use Prim.Native.Nat.{ℕ}
 use Rattle.wal_types.specs.declared.Header.{Header}
 use Rattle.wal_types.specs.Memory.{Memory, Process}
-use Rattle.wal_types.specs.Store.{header-with, frame-index-blocks, frame-index-len, frame-index-overflowed}
-use Rattle.wal_types.specs.Call.{Call, Done, after}
-use Rattle.index_record.specs.declared.record.Record.{Record}
-use Rattle.index_record.specs.declared.record.Record.the-variants.{Stored, Dropped, Refused as RecordRefused}
-use Rattle.index_record.specs.declared.rollback.Rollback.{Rollback}
-use Rattle.index_record.specs.declared.rollback.Rollback.the-variants.{Kept, Refused as RollbackRefused}
+use Rattle.wal_types.specs.Call.{Call, Answer, Done, after}
 use Rattle.index_find.specs.Index.{index-in}
+use Rattle.index_end.specs.Cells.{with-cells}
 use Rattle.c_index_replies.specs.declared.index_reply.IndexReply.{IndexReply}
-use Rattle.c_index_replies.specs.declared.index_reply.IndexCells.{IndexCells}
+use Rattle.c_index_replies.specs.declared.index_reply.IndexDone.{IndexDone}
 use Rattle.c_index_replies.specs.declared.index_reply.IndexLeft.{IndexLeft}
 use Rattle.c_numbers.specs.Reply.{refusal-number, answer-number}
 
--- The reply and the index's cells of each case of an answer, with the header that was given.
-abbrev pub cells-of : ℕ → ℕ → Header → IndexCells
-cells-of n answer h =
-    record { reply = record { refusal = n; answer = answer }; «frame_index_blocks» = h .«frame_index_blocks»; «frame_index_len» = h .«frame_index_len»; «frame_index_overflowed» = h .«frame_index_overflowed» }
+-- an answer in numbers
+abbrev pub reply-of : Answer → IndexReply
+reply-of a = record { refusal = refusal-number a; answer = answer-number a }
 
-abbrev pub record-cells : Record → Header → IndexCells
-record-cells (Stored next) h = cells-of 0 1 next
-record-cells (Dropped next) h = cells-of 0 0 next
-record-cells (RecordRefused n) h = cells-of n 0 h
-
-abbrev pub rollback-cells : Rollback → Header → IndexCells
-rollback-cells (Kept next) h = cells-of 0 (next .«frame_index_len») next
-rollback-cells (RollbackRefused n) h = cells-of n 0 h
-
--- the header with these cells in it, and the reply
-abbrev pub with-cells : IndexCells → Header → IndexLeft
-with-cells c h =
-    record {
-      header = header-with frame-index-blocks (c .«frame_index_blocks») (header-with frame-index-len (c .«frame_index_len») (header-with frame-index-overflowed (c .«frame_index_overflowed») h));
-      reply = c .reply;
-    }
+-- the header with the cells of what is done in it, and the reply
+abbrev pub index-left : IndexDone → Header → IndexLeft
+index-left d h = record { header = with-cells (d .cells) h; reply = d .reply }
 
 -- The reply tells what the call answers, the header and index are as it leaves them, and nothing else changes.
 pub record Told (r : IndexReply) (z : Memory) (h : Header) (ps fs hs : List ℕ) (p : Process) (d : Done) : Type 0 where

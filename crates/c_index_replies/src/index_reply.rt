@@ -1,15 +1,18 @@
 // The calls that change the index, in numbers: the reply, and the header that the call leaves.
+use index_end::cells;
+use index_end::cells::IndexCells;
 use index_record::record;
-use index_record::record::Record;
+use index_record::record::RecordAnswer;
 use index_record::rollback;
-use index_record::rollback::Rollback;
+use index_record::rollback::RollbackAnswer;
 use wal_types::Header;
 ghost use mathlib.Core.Path.{_≡_};
 ghost use mathlib.Core.Bool.{not};
 ghost use lib.Dec.{eqb};
-ghost use Rattle.index_record.specs.Record.{record-frame};
-ghost use Rattle.index_record.specs.Rollback.{rollback-frames};
-ghost use Rattle.c_index_replies.specs.IndexReply.{cells-of, record-cells, rollback-cells, with-cells, IndexReplied};
+ghost use Rattle.index_end.specs.Cells.{with-cells};
+ghost use Rattle.index_record.specs.Record.{record-frame, record-answer};
+ghost use Rattle.index_record.specs.Rollback.{rollback-frames, rollback-answer};
+ghost use Rattle.c_index_replies.specs.IndexReply.{reply-of, index-left, IndexReplied};
 
 // The answer of a record or a rollback in numbers. refusal: 0, or the number of the refusal. answer: 1 stored, 0 dropped;
 // for a rollback the kept length.
@@ -19,12 +22,10 @@ pub struct IndexReply {
     pub answer: u32,
 }
 
-// The reply, and the index's cells of the header as the call leaves them: all of the header that such a call changes.
-pub struct IndexCells {
+// The reply, and the index's cells of the header as the call leaves them.
+pub struct IndexDone {
     pub reply: IndexReply,
-    pub frame_index_blocks: u32,
-    pub frame_index_len: u32,
-    pub frame_index_overflowed: u32,
+    pub cells: IndexCells,
 }
 
 // The header that such a call leaves, and the reply.
@@ -33,51 +34,48 @@ pub struct IndexLeft {
     pub reply: IndexReply,
 }
 
-fn cells_of(refusal: u32, answer: u32, header: Header) -> IndexCells
-    ensures { λ r. ⌜ r ≡ cells-of refusal answer header ⌝ }
+fn record_reply(answer: RecordAnswer) -> IndexReply
+    ensures { λ r. ⌜ r ≡ reply-of (record-answer answer) ⌝ }
 {
-    let reply = IndexReply {
-        refusal: refusal,
-        answer: answer,
-    };
-    IndexCells {
-        reply: reply,
-        frame_index_blocks: header.frame_index_blocks,
-        frame_index_len: header.frame_index_len,
-        frame_index_overflowed: header.frame_index_overflowed,
+    match answer {
+        RecordAnswer::Stored => IndexReply {
+            refusal: 0,
+            answer: 1,
+        },
+        RecordAnswer::Dropped => IndexReply {
+            refusal: 0,
+            answer: 0,
+        },
+        RecordAnswer::Refused(number) => IndexReply {
+            refusal: number,
+            answer: 0,
+        },
     }
 }
 
-fn recorded(answer: Record, header: Header) -> IndexCells
-    ensures { λ r. ⌜ r ≡ record-cells answer header ⌝ }
+fn rollback_reply(answer: RollbackAnswer) -> IndexReply
+    ensures { λ r. ⌜ r ≡ reply-of (rollback-answer answer) ⌝ }
 {
     match answer {
-        Record::Stored(next) => cells_of(0, 1, next),
-        Record::Dropped(next) => cells_of(0, 0, next),
-        Record::Refused(number) => cells_of(number, 0, header),
-    }
-}
-
-fn rolled_back(answer: Rollback, header: Header) -> IndexCells
-    ensures { λ r. ⌜ r ≡ rollback-cells answer header ⌝ }
-{
-    match answer {
-        Rollback::Kept(next) => cells_of(0, next.frame_index_len, next),
-        Rollback::Refused(number) => cells_of(number, 0, header),
+        RollbackAnswer::Kept(len) => IndexReply {
+            refusal: 0,
+            answer: len,
+        },
+        RollbackAnswer::Refused(refused) => IndexReply {
+            refusal: refused,
+            answer: 0,
+        },
     }
 }
 
 // Only the index's cells are set: the rest of the header stays in place when the C function stores it.
-pub fn left(header: Header, cells: IndexCells) -> IndexLeft
-    ensures { λ r. ⌜ r ≡ with-cells cells header ⌝ }
+pub fn left(header: Header, done: IndexDone) -> IndexLeft
+    ensures { λ r. ⌜ r ≡ index-left done header ⌝ }
 {
-    let mut next = header;
-    next.frame_index_blocks = cells.frame_index_blocks;
-    next.frame_index_len = cells.frame_index_len;
-    next.frame_index_overflowed = cells.frame_index_overflowed;
-    let reply = cells.reply;
+    let cells = done.cells;
+    let reply = done.reply;
     IndexLeft {
-        header: next,
+        header: cells::with_index_cells(header, cells),
         reply: reply,
     }
 }
@@ -92,10 +90,10 @@ pub fn record_frame(
     page_id: u64,
     frame_id: u64,
     grow: u32,
-) -> IndexCells
-    ensures { λ r. ⌜ IndexReplied (record-frame capacity «max_blocks» «page_id» «frame_id» (not (eqb grow 0))) header (now (pages .entry)) (now (frames .entry)) (now (hash .entry)) (r .reply) (with-cells r header .header) (now (pages .exit)) (now (frames .exit)) (now (hash .exit)) ⌝ }
+) -> IndexDone
+    ensures { λ r. ⌜ IndexReplied (record-frame capacity «max_blocks» «page_id» «frame_id» (not (eqb grow 0))) header (now (pages .entry)) (now (frames .entry)) (now (hash .entry)) (r .reply) (with-cells (r .cells) header) (now (pages .exit)) (now (frames .exit)) (now (hash .exit)) ⌝ }
 {
-    let answer = record::record_frame(
+    let recorded = record::record_frame(
         capacity,
         max_blocks,
         header,
@@ -106,7 +104,12 @@ pub fn record_frame(
         frame_id,
         grow != 0,
     );
-    recorded(answer, header)
+    let answer = recorded.answer;
+    let cells = recorded.cells;
+    IndexDone {
+        reply: record_reply(answer),
+        cells: cells,
+    }
 }
 
 pub fn rollback_frames(
@@ -117,10 +120,10 @@ pub fn rollback_frames(
     frames: &[u64],
     hash: &mut [u16],
     max_frame: u64,
-) -> IndexCells
-    ensures { λ r. ⌜ IndexReplied (rollback-frames capacity «max_blocks» «max_frame») header (now (pages .entry)) (now (frames .entry)) (now (hash .entry)) (r .reply) (with-cells r header .header) (now (pages .entry)) (now (frames .entry)) (now (hash .exit)) ⌝ }
+) -> IndexDone
+    ensures { λ r. ⌜ IndexReplied (rollback-frames capacity «max_blocks» «max_frame») header (now (pages .entry)) (now (frames .entry)) (now (hash .entry)) (r .reply) (with-cells (r .cells) header) (now (pages .entry)) (now (frames .entry)) (now (hash .exit)) ⌝ }
 {
-    let answer = rollback::rollback_frames(
+    let rolled_back = rollback::rollback_frames(
         capacity,
         max_blocks,
         header,
@@ -129,5 +132,10 @@ pub fn rollback_frames(
         hash,
         max_frame,
     );
-    rolled_back(answer, header)
+    let answer = rolled_back.answer;
+    let cells = rolled_back.cells;
+    IndexDone {
+        reply: rollback_reply(answer),
+        cells: cells,
+    }
 }

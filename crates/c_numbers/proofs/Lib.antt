@@ -1,3 +1,2 @@
--- Laws of what a call leaves of the header, and of answers with three cases.
-pub mod Touched
+-- Laws of answers with three cases.
 pub mod Cases

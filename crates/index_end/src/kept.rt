@@ -1,9 +1,10 @@
-// How many entries a rollback keeps, and the header that it leaves.
-use wal_types::Header;
+// How many entries a rollback keeps, and the cells that it leaves.
+use crate::cells::IndexCells;
 ghost use mathlib.Core.Path.{_≡_};
 ghost use Prim.Native.Nat.{_≤_};
 ghost use lib.ListN.{length};
-ghost use Rattle.wal_types.specs.Store.{header-with, frame-index-len};
+ghost use Rattle.wal_types.specs.Store.{frame-index-len};
+ghost use Rattle.index_end.specs.Cells.{cells-with};
 ghost use Rattle.index_end.specs.Kept.{kept-of};
 
 // How many of the first len entries are kept.
@@ -21,11 +22,11 @@ pub fn kept_entries(frames: &[u64], len: usize, max_frame: u64) -> usize
     0
 }
 
-// The header with another length.
-pub fn shortened(header: Header, len: u32) -> Header
-    ensures { λ r. ⌜ r ≡ header-with frame-index-len len header ⌝ }
+// The cells with another length.
+pub fn shortened(cells: IndexCells, len: u32) -> IndexCells
+    ensures { λ r. ⌜ r ≡ cells-with frame-index-len len cells ⌝ }
 {
-    let mut next = header;
+    let mut next = cells;
     next.frame_index_len = len;
     next
 }

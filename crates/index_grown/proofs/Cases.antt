@@ -9,10 +9,9 @@ use native.Mathlib.Omega.{arith}
 use lib.ListN.{length, getD, length-map}
 use lib.Seq.{getD-set-same}
 use borrow.Author.Tests.{ne-eqb}
-use Rattle.wal_types.specs.declared.Header.{Header}
+use Rattle.index_end.specs.declared.cells.IndexCells.{IndexCells}
 use Rattle.wal_types.specs.Memory.{Memory, Process}
-use Rattle.wal_types.specs.Fresh.{Fresh, fresh-header}
-use Rattle.wal_types.specs.Store.{frame-index-len, header-with}
+use Rattle.wal_types.specs.Fresh.{Fresh}
 use Rattle.wal_types.specs.Call.{Pair, pair, Answer, stored, frame-found, none, listed, Done, done, after}
 use Rattle.index_hash.specs.Home.{home}
 use Rattle.index_find.specs.declared.find.Watermark.the-variants.{UpTo, NoWatermark}
@@ -92,40 +91,40 @@ is-3-2 =
 
 -- one block in use, nothing published; page, frame and hash cells for a block
 module _ (m : Memory) (n : ℕ) (fresh : Fresh 1 1 n m) (long : LongMemory 1 m) (p : Process) where
-  -- the header with so many entries
-  abbrev header-of : ℕ → Header
-  header-of len = header-with frame-index-len len (fresh-header 1 (fresh .c1) (fresh .c2))
+  -- the index's cells with so many entries
+  abbrev cells-at : ℕ → IndexCells
+  cells-at len = record { «frame_index_blocks» = 1; «frame_index_len» = len; «frame_index_overflowed» = 0; «max_frame» = m .header .«max_frame» }
 
   abbrev m1 : Memory
-  m1 = with-entry 7 1 m (header-of 0)
+  m1 = with-entry 7 1 m (cells-at 0)
 
   abbrev m2 : Memory
-  m2 = with-entry 8199 2 m1 (header-of 1)
+  m2 = with-entry 8199 2 m1 (cells-at 1)
 
   abbrev m3 : Memory
-  m3 = with-entry 7 3 m2 (header-of 2)
+  m3 = with-entry 7 3 m2 (cells-at 2)
 
   -- the first record: it resets the index, and is the first of its block
   g0 : Grown 4096 1 m
   g0 = fresh-grown 4096 1 m 1 n (omega arith) fresh long
 
-  end0 : placed 4096 1 false (started 1 (m .header)) ≡ AtEnd (header-of 0)
+  end0 : placed 4096 1 false (started 1 (m .header)) ≡ AtEnd (cells-at 0)
   unfolding placed started
   end0 = rw (fresh .header-fresh)
 
   first-record : recorded 7 1 m p ≡ done stored m1 p
-  first-record = stores 4096 1 7 1 false m p g0 (header-of 0) end0 (grown-accepted 4096 1 m g0 refl refl) refl
+  first-record = stores 4096 1 7 1 false m p g0 (cells-at 0) end0 (grown-accepted 4096 1 m g0 refl refl) refl
 
   g1 : Grown 4096 1 m1
-  g1 = entry-grown 4096 1 7 1 false m p g0 (header-of 0) end0 (grown-accepted 4096 1 m g0 refl refl) refl
+  g1 = entry-grown 4096 1 7 1 false m p g0 (cells-at 0) end0 (grown-accepted 4096 1 m g0 refl refl) refl
 
   entries1 : entries m1 ≡ pair 7 1 ∷ []
   entries1 =
-      entry-entries 4096 1 7 1 false m p g0 (header-of 0) end0 (grown-accepted 4096 1 m g0 refl refl) refl
+      entry-entries 4096 1 7 1 false m p g0 (cells-at 0) end0 (grown-accepted 4096 1 m g0 refl refl) refl
       ∙ rw (fresh .header-fresh)
 
   -- the second
-  end1 : placed 4096 1 false (started 2 (m1 .header)) ≡ AtEnd (header-of 1)
+  end1 : placed 4096 1 false (started 2 (m1 .header)) ≡ AtEnd (cells-at 1)
   unfolding placed started
   end1 = refl
 
@@ -133,18 +132,18 @@ module _ (m : Memory) (n : ℕ) (fresh : Fresh 1 1 n m) (long : LongMemory 1 m) 
   order1 = let l = long .frames-long in rw (getD-set-same (m .frames) 0 1 0 (omega arith))
 
   second-record : recorded 8199 2 m1 p ≡ done stored m2 p
-  second-record = stores 4096 1 8199 2 false m1 p g1 (header-of 1) end1 (grown-accepted 4096 1 m1 g1 refl refl) order1
+  second-record = stores 4096 1 8199 2 false m1 p g1 (cells-at 1) end1 (grown-accepted 4096 1 m1 g1 refl refl) order1
 
   g2 : Grown 4096 1 m2
-  g2 = entry-grown 4096 1 8199 2 false m1 p g1 (header-of 1) end1 (grown-accepted 4096 1 m1 g1 refl refl) order1
+  g2 = entry-grown 4096 1 8199 2 false m1 p g1 (cells-at 1) end1 (grown-accepted 4096 1 m1 g1 refl refl) order1
 
   entries2 : entries m2 ≡ pair 7 1 ∷ (pair 8199 2 ∷ [])
   entries2 =
-      entry-entries 4096 1 8199 2 false m1 p g1 (header-of 1) end1 (grown-accepted 4096 1 m1 g1 refl refl) order1
+      entry-entries 4096 1 8199 2 false m1 p g1 (cells-at 1) end1 (grown-accepted 4096 1 m1 g1 refl refl) order1
       ∙ ap (λ (l : List Pair). l ++ (pair 8199 2 ∷ [])) entries1
 
   -- the third
-  end2 : placed 4096 1 false (started 3 (m2 .header)) ≡ AtEnd (header-of 2)
+  end2 : placed 4096 1 false (started 3 (m2 .header)) ≡ AtEnd (cells-at 2)
   unfolding placed started
   end2 = refl
 
@@ -152,14 +151,14 @@ module _ (m : Memory) (n : ℕ) (fresh : Fresh 1 1 n m) (long : LongMemory 1 m) 
   order2 = let l = g1 .long .frames-long in rw (getD-set-same (m1 .frames) 1 2 0 (omega arith))
 
   third-record : recorded 7 3 m2 p ≡ done stored m3 p
-  third-record = stores 4096 1 7 3 false m2 p g2 (header-of 2) end2 (grown-accepted 4096 1 m2 g2 refl refl) order2
+  third-record = stores 4096 1 7 3 false m2 p g2 (cells-at 2) end2 (grown-accepted 4096 1 m2 g2 refl refl) order2
 
   g3 : Grown 4096 1 m3
-  g3 = entry-grown 4096 1 7 3 false m2 p g2 (header-of 2) end2 (grown-accepted 4096 1 m2 g2 refl refl) order2
+  g3 = entry-grown 4096 1 7 3 false m2 p g2 (cells-at 2) end2 (grown-accepted 4096 1 m2 g2 refl refl) order2
 
   entries3 : entries m3 ≡ three
   entries3 =
-      entry-entries 4096 1 7 3 false m2 p g2 (header-of 2) end2 (grown-accepted 4096 1 m2 g2 refl refl) order2
+      entry-entries 4096 1 7 3 false m2 p g2 (cells-at 2) end2 (grown-accepted 4096 1 m2 g2 refl refl) order2
       ∙ ap (λ (l : List Pair). l ++ (pair 7 3 ∷ [])) entries2
 
   after-three : three-records m p ≡ m3

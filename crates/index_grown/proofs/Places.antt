@@ -11,11 +11,13 @@ use lib.Seq.{getD-set-same}
 use borrow.Author.Tests.{leb-false, ltb-false}
 use Rattle.wal_types.specs.declared.Header.{Header}
 use Rattle.wal_types.specs.Settings.{entries-for}
-use Rattle.wal_types.specs.Store.{frame-index-len, frame-index-overflowed, frame-index-blocks, header-with}
+use Rattle.wal_types.specs.Store.{frame-index-len, frame-index-overflowed, frame-index-blocks}
 use Rattle.index_hash.specs.Block.{cleared, inserted, built}
 use Rattle.index_hash.proofs.Built.{built-none, built-next}
+use Rattle.index_end.specs.declared.cells.IndexCells.{IndexCells}
 use Rattle.index_end.specs.declared.place.Place.the-variants.{AtEnd, NoPlace}
 use Rattle.index_find.specs.Index.{block-of, place-of, block-pages-of}
+use Rattle.index_end.specs.Cells.{cells-of, cells-with}
 use Rattle.index_end.specs.Place.{resets, started, blocks-full, placed, out-of-order}
 use Rattle.index_find.proofs.Blocks.{block-page}
 use Rattle.index_grown.specs.Entries.{entries-of}
@@ -27,59 +29,49 @@ pub started-cases : (frame : ℕ) (h : Header) → (started frame h .«frame_ind
 unfolding started
 started-cases frame h = go (resets frame h)
   where
-    go : (r : Bool) → (cond r (header-with frame-index-overflowed 0 (header-with frame-index-len 0 h)) h .«frame_index_len» ≡ 0) ⊎ (cond r (header-with frame-index-overflowed 0 (header-with frame-index-len 0 h)) h .«frame_index_len» ≡ h .«frame_index_len»)
+    go : (r : Bool) → (cond r (cells-with frame-index-overflowed 0 (cells-with frame-index-len 0 (cells-of h))) (cells-of h) .«frame_index_len» ≡ 0) ⊎ (cond r (cells-with frame-index-overflowed 0 (cells-with frame-index-len 0 (cells-of h))) (cells-of h) .«frame_index_len» ≡ h .«frame_index_len»)
     go true = inl refl
     go false = inr refl
-
--- a reset leaves the published frame
-pub started-published : (frame : ℕ) (h : Header) → started frame h .«max_frame» ≡ h .«max_frame»
-unfolding started
-started-published frame h = go (resets frame h)
-  where
-    go : (r : Bool) → cond r (header-with frame-index-overflowed 0 (header-with frame-index-len 0 h)) h .«max_frame» ≡ h .«max_frame»
-    go true = refl
-    go false = refl
 
 -- the entries that a record finds
 pub started-entries : (frame : ℕ) (h : Header) (ps fs : List ℕ) → entries-of (started frame h .«frame_index_len») ps fs ≡ cond (resets frame h) [] (entries-of (h .«frame_index_len») ps fs)
 unfolding started
 started-entries frame h ps fs = go (resets frame h)
   where
-    go : (r : Bool) → entries-of (cond r (header-with frame-index-overflowed 0 (header-with frame-index-len 0 h)) h .«frame_index_len») ps fs ≡ cond r [] (entries-of (h .«frame_index_len») ps fs)
+    go : (r : Bool) → entries-of (cond r (cells-with frame-index-overflowed 0 (cells-with frame-index-len 0 (cells-of h))) (cells-of h) .«frame_index_len») ps fs ≡ cond r [] (entries-of (h .«frame_index_len») ps fs)
     go true = entries-none ps fs
     go false = refl
 
--- the header that an entry's place leaves: the same length, below capacity and below the blocks in use
-pub record AtEndOf (capacity b : ℕ) (s g : Header) : Type 0 where
+-- the cells that an entry's place leaves: the same length, below capacity and below the blocks in use
+pub record AtEndOf (capacity b : ℕ) (s g : IndexCells) : Type 0 where
   pub same-len : g .«frame_index_len» ≡ s .«frame_index_len»
-  pub same-published : g .«max_frame» ≡ s .«max_frame»
   pub below-capacity : g .«frame_index_len» < capacity
   pub below-blocks : g .«frame_index_len» < 4096 * g .«frame_index_blocks»
   pub in-limit : g .«frame_index_blocks» ≤ b
 
-at-end-by : (capacity b : ℕ) (grow : Bool) (s g : Header) (full no-more beyond : Bool) → leb capacity (s .«frame_index_len») ≡ beyond → blocks-full s ≡ full → leb b (s .«frame_index_blocks») ≡ no-more
-    → cond (beyond || (full && (no-more || not grow))) NoPlace (AtEnd (cond full (header-with frame-index-blocks (s .«frame_index_blocks» + 1) s) s)) ≡ AtEnd g
+at-end-by : (capacity b : ℕ) (grow : Bool) (s g : IndexCells) (full no-more beyond : Bool) → leb capacity (s .«frame_index_len») ≡ beyond → blocks-full s ≡ full → leb b (s .«frame_index_blocks») ≡ no-more
+    → cond (beyond || (full && (no-more || not grow))) NoPlace (AtEnd (cond full (cells-with frame-index-blocks (s .«frame_index_blocks» + 1) s) s)) ≡ AtEnd g
     → s .«frame_index_len» ≤ 4096 * s .«frame_index_blocks» → s .«frame_index_blocks» ≤ b
     → AtEndOf capacity b s g
 at-end-by capacity b grow s g full no-more true l f n e i j = let z : _≡_ {A = ℕ} 0 1 = cc in absurd (omega arith)
 at-end-by capacity b grow s g true true false l f n e i j = let z : _≡_ {A = ℕ} 0 1 = cc in absurd (omega arith)
 at-end-by capacity b false s g true false false l f n e i j = let z : _≡_ {A = ℕ} 0 1 = cc in absurd (omega arith)
 at-end-by capacity b true s g true false false l f n e i j =
-    let q : header-with frame-index-blocks (s .«frame_index_blocks» + 1) s ≡ g = cc in
-    let r : s .«frame_index_len» ≡ g .«frame_index_len» = ap (λ (x : Header). x .«frame_index_len») q in
-    let t : s .«frame_index_blocks» + 1 ≡ g .«frame_index_blocks» = ap (λ (x : Header). x .«frame_index_blocks») q in
+    let q : cells-with frame-index-blocks (s .«frame_index_blocks» + 1) s ≡ g = cc in
+    let r : s .«frame_index_len» ≡ g .«frame_index_len» = ap (λ (x : IndexCells). x .«frame_index_len») q in
+    let t : s .«frame_index_blocks» + 1 ≡ g .«frame_index_blocks» = ap (λ (x : IndexCells). x .«frame_index_blocks») q in
     let below = leb-false capacity (s .«frame_index_len») l in
     let more = leb-false b (s .«frame_index_blocks») n in
-    record { same-len = sym r; same-published = sym (ap (λ (x : Header). x .«max_frame») q); below-capacity = omega arith; below-blocks = omega arith; in-limit = omega arith }
+    record { same-len = sym r; below-capacity = omega arith; below-blocks = omega arith; in-limit = omega arith }
 at-end-by capacity b grow s g false no-more false l f n e i j =
     let q : s ≡ g = cc in
-    let r : s .«frame_index_len» ≡ g .«frame_index_len» = ap (λ (x : Header). x .«frame_index_len») q in
-    let t : s .«frame_index_blocks» ≡ g .«frame_index_blocks» = ap (λ (x : Header). x .«frame_index_blocks») q in
+    let r : s .«frame_index_len» ≡ g .«frame_index_len» = ap (λ (x : IndexCells). x .«frame_index_len») q in
+    let t : s .«frame_index_blocks» ≡ g .«frame_index_blocks» = ap (λ (x : IndexCells). x .«frame_index_blocks») q in
     let below = leb-false capacity (s .«frame_index_len») l in
     let room = leb-false (entries-for (s .«frame_index_blocks»)) (s .«frame_index_len») f in
-    record { same-len = sym r; same-published = sym (ap (λ (x : Header). x .«max_frame») q); below-capacity = omega arith; below-blocks = omega arith; in-limit = omega arith }
+    record { same-len = sym r; below-capacity = omega arith; below-blocks = omega arith; in-limit = omega arith }
 
-pub at-end-of : (capacity b : ℕ) (grow : Bool) (s g : Header) → placed capacity b grow s ≡ AtEnd g → s .«frame_index_len» ≤ 4096 * s .«frame_index_blocks» → s .«frame_index_blocks» ≤ b → AtEndOf capacity b s g
+pub at-end-of : (capacity b : ℕ) (grow : Bool) (s g : IndexCells) → placed capacity b grow s ≡ AtEnd g → s .«frame_index_len» ≤ 4096 * s .«frame_index_blocks» → s .«frame_index_blocks» ≤ b → AtEndOf capacity b s g
 unfolding placed
 at-end-of capacity b grow s g e i j = at-end-by capacity b grow s g _ _ _ refl refl refl e i j
 

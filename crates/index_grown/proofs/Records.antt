@@ -11,7 +11,7 @@ use lib.ListN.{length, getD, set, length-set}
 use lib.Seq.{getD-set-same, getD-set-other}
 use Rattle.wal_types.specs.declared.Header.{Header}
 use Rattle.wal_types.specs.Memory.{Memory, Process}
-use Rattle.wal_types.specs.Store.{frame-index-len, frame-index-overflowed, header-with}
+use Rattle.wal_types.specs.Store.{frame-index-len, frame-index-overflowed}
 use Rattle.wal_types.specs.Call.{Pair, pair, refused, stored, dropped, Done, done, after}
 use Rattle.index_hash.specs.declared.Cell.{Cell}
 use Rattle.index_hash.specs.declared.Cell.the-variants.{Empty, Full}
@@ -19,9 +19,11 @@ use Rattle.index_hash.specs.Block.{empty-cell, inserted, built}
 use Rattle.index_hash.proofs.Empty.{inserted-at}
 use Rattle.index_hash.proofs.Built.{built-length}
 use Rattle.index_hash.proofs.Used.{never-full}
+use Rattle.index_end.specs.declared.cells.IndexCells.{IndexCells}
 use Rattle.index_end.specs.declared.place.Place.{Place}
 use Rattle.index_end.specs.declared.place.Place.the-variants.{AtEnd, NoPlace}
 use Rattle.index_find.specs.Index.{bad-settings, short-index, index-refusal, block-of, place-of, block-cells-of, block-pages-of, with-block, index-in}
+use Rattle.index_end.specs.Cells.{cells-with, with-cells}
 use Rattle.index_end.specs.Place.{started, placed, out-of-order}
 use Rattle.index_record.specs.Record.{record-frame}
 use Rattle.index_find.proofs.Blocks.{length-with}
@@ -34,7 +36,7 @@ use Rattle.index_grown.proofs.Entries.{entries-stored, entries-each, ri
 use Rattle.index_grown.proofs.Lists.{Each}
 use Rattle.index_grown.proofs.Blocks.{built-set-past, with-last, full-blocks}
 use Rattle.index_grown.proofs.Starts.{header-grown}
-use Rattle.index_grown.proofs.Places.{started-cases, started-published, started-entries, AtEndOf, at-end-of, above-last, built-entry, built-first}
+use Rattle.index_grown.proofs.Places.{started-cases, started-entries, AtEndOf, at-end-of, above-last, built-entry, built-first}
 
 -- refusals 1 and 2 are not 4
 not-four : (a b : Bool) → _≡_ {A = ℕ} (cond a 1 (cond b 2 0)) 4 → ⊥
@@ -43,14 +45,14 @@ not-four false true e = omega (arith, e)
 not-four false false e = omega (arith, e)
 
 -- the memory after a stored record: the entry at the end, and its block built with it
-abbrev pub with-entry : ℕ → ℕ → Memory → Header → Memory
+abbrev pub with-entry : ℕ → ℕ → Memory → IndexCells → Memory
 with-entry page frame m g =
-    index-in m (header-with frame-index-len (g .«frame_index_len» + 1) g) (set (m .pages) (g .«frame_index_len») page) (set (m .frames) (g .«frame_index_len») frame)
+    index-in m (with-cells (cells-with frame-index-len (g .«frame_index_len» + 1) g) (m .header)) (set (m .pages) (g .«frame_index_len») page) (set (m .frames) (g .«frame_index_len») frame)
     (with-block (block-of (g .«frame_index_len»)) (built (block-pages-of (block-of (g .«frame_index_len»)) (set (m .pages) (g .«frame_index_len») page)) (place-of (g .«frame_index_len») + 1)) (m .hash))
 
 -- after a dropped one: the flag set
 abbrev pub with-drop : ℕ → Memory → Memory
-with-drop frame m = index-in m (header-with frame-index-overflowed 1 (started frame (m .header))) (m .pages) (m .frames) (m .hash)
+with-drop frame m = index-in m (with-cells (cells-with frame-index-overflowed 1 (started frame (m .header))) (m .header)) (m .pages) (m .frames) (m .hash)
 
 module _ (capacity b page frame : ℕ) (grow : Bool) (m : Memory) (p : Process) (grown : Grown capacity b m) where
   abbrev h : Header
@@ -63,7 +65,7 @@ module _ (capacity b page frame : ℕ) (grow : Bool) (m : Memory) (p : Process) 
   number-of = index-refusal capacity b h (length (m .pages)) (length (m .frames)) (length (m .hash))
 
   -- an entry at the end, above the last frame
-  module _ (g : Header) (at-end : placed capacity b grow (started frame h) ≡ AtEnd g) where
+  module _ (g : IndexCells) (at-end : placed capacity b grow (started frame h) ≡ AtEnd g) where
     abbrev n : ℕ
     n = g .«frame_index_len»
 
@@ -111,14 +113,14 @@ module _ (capacity b page frame : ℕ) (grow : Bool) (m : Memory) (p : Process) 
           next Full e o = absurd (never-four o e)
           next (Empty c) e o =
               record-next capacity b page frame grow m h (m .pages) (m .frames) (m .hash) p passed g at-end c in-order o fits e
-              ∙ ap (λ (cells : List ℕ). done stored (index-in m (header-with frame-index-len (n + 1) g) (set (m .pages) n page) (set (m .frames) n frame) (with-block (block-of n) cells (m .hash))) p)
+              ∙ ap (λ (cells : List ℕ). done stored (index-in m (with-cells (cells-with frame-index-len (n + 1) g) h) (set (m .pages) n page) (set (m .frames) n frame) (with-block (block-of n) cells (m .hash))) p)
               (sym (inserted-at (block-cells-of (block-of n) (m .hash)) (place-of n) page c e)
               ∙ (ap (λ (x : List ℕ). inserted x (place-of n) page) (follows o) ∙ sym (built-entry n page (m .pages) (room .1 .1 .0))))
 
           go : Dec (place-of n ≡ 0) → call-done ≡ done stored (with-entry page frame m g) p
           go (yes o) =
               record-first capacity b page frame grow m h (m .pages) (m .frames) (m .hash) p passed g at-end in-order o fits
-              ∙ ap (λ (cells : List ℕ). done stored (index-in m (header-with frame-index-len (n + 1) g) (set (m .pages) n page) (set (m .frames) n frame) (with-block (block-of n) cells (m .hash))) p)
+              ∙ ap (λ (cells : List ℕ). done stored (index-in m (with-cells (cells-with frame-index-len (n + 1) g) h) (set (m .pages) n page) (set (m .frames) n frame) (with-block (block-of n) cells (m .hash))) p)
               (built-first n page (m .pages) (room .1 .1 .0) o)
           go (no o) = next (empty-cell (block-cells-of (block-of n) (m .hash)) page) refl o
 
@@ -174,11 +176,11 @@ module _ (capacity b page frame : ℕ) (grow : Bool) (m : Memory) (p : Process) 
   -- BY CASES: a record is refused, never with 4, and changes nothing; or dropped; or stored at the end
   pub record-cases : (P : Done → Type 0) → ((n : ℕ) → (n ≡ 4 → ⊥) → P (done (refused n) m p))
       → (number-of ≡ 0 → placed capacity b grow (started frame h) ≡ NoPlace → P (done dropped (with-drop frame m) p))
-      → ((g : Header) → number-of ≡ 0 → placed capacity b grow (started frame h) ≡ AtEnd g → out-of-order frame (g .«frame_index_len») (m .frames) ≡ false → P (done stored (with-entry page frame m g) p))
+      → ((g : IndexCells) → number-of ≡ 0 → placed capacity b grow (started frame h) ≡ AtEnd g → out-of-order frame (g .«frame_index_len») (m .frames) ≡ false → P (done stored (with-entry page frame m g) p))
       → P call-done
   record-cases P refuses drops enters = by-number (ℕ-discrete number-of 0)
     where
-      by-cell : number-of ≡ 0 → (g : Header) → placed capacity b grow (started frame h) ≡ AtEnd g → (o : Bool) → out-of-order frame (g .«frame_index_len») (m .frames) ≡ o → P call-done
+      by-cell : number-of ≡ 0 → (g : IndexCells) → placed capacity b grow (started frame h) ≡ AtEnd g → (o : Bool) → out-of-order frame (g .«frame_index_len») (m .frames) ≡ o → P call-done
       by-cell passed g e true o =
           subst P (sym (record-out-of-order capacity b page frame grow m h (m .pages) (m .frames) (m .hash) p passed g e o)) (refuses 3 (λ q. omega (arith, q)))
       by-cell passed g e false o = subst P (sym (stores g e passed o)) (enters g passed e o)
@@ -211,8 +213,8 @@ module _ (capacity b page frame : ℕ) (grow : Bool) (m : Memory) (p : Process) 
   pub record-elsewhere : SameReaders m (call-done .memory)
   record-elsewhere =
       record-cases (λ d. SameReaders m (d .memory)) (λ n i. record { same-published = refl; same-bitmap = refl; same-reader-frames = refl; same-reader-owners = refl })
-      (λ passed e. record { same-published = started-published frame h; same-bitmap = refl; same-reader-frames = refl; same-reader-owners = refl })
-      (λ g passed e o. record { same-published = end-of g e .same-published ∙ started-published frame h; same-bitmap = refl; same-reader-frames = refl; same-reader-owners = refl })
+      (λ passed e. record { same-published = refl; same-bitmap = refl; same-reader-frames = refl; same-reader-owners = refl })
+      (λ g passed e o. record { same-published = refl; same-bitmap = refl; same-reader-frames = refl; same-reader-owners = refl })
 
   -- a stored record's frame is above that of every entry that it found
   pub record-above : call-done .answer ≡ stored → Each (λ q. q .frame < frame) (entries-found frame m)

@@ -7,17 +7,19 @@ use native.Mathlib.Omega.{arith}
 use lib.ListN.{length}
 use Rattle.wal_types.specs.declared.Header.{Header}
 use Rattle.wal_types.specs.Memory.{Memory, Process}
-use Rattle.wal_types.specs.Store.{frame-index-overflowed, header-with}
+use Rattle.wal_types.specs.Store.{frame-index-overflowed}
 use Rattle.wal_types.specs.Call.{done, dropped, after}
 use Rattle.index_hash.specs.declared.Cell.{Cell}
 use Rattle.index_hash.specs.declared.Cell.the-variants.{Empty, Full}
 use Rattle.index_hash.specs.Block.{empty-cell}
 use Rattle.index_hash.proofs.Empty.{found-below}
+use Rattle.index_end.specs.declared.cells.IndexCells.{IndexCells}
 use Rattle.index_end.specs.declared.place.Place.{Place}
 use Rattle.index_end.specs.declared.place.Place.the-variants.{AtEnd, NoPlace}
 use Rattle.index_record.specs.declared.record.Plan.{Plan}
 use Rattle.index_record.specs.declared.record.Plan.the-variants.{First, Next, Dropped, Refused}
 use Rattle.index_find.specs.Index.{index-refusal, block-of, place-of, block-cells-of, index-in, HasRoom}
+use Rattle.index_end.specs.Cells.{cells-with, with-cells}
 use Rattle.index_end.specs.Place.{started, placed, out-of-order}
 use Rattle.index_record.specs.Record.{record-frame}
 use Rattle.index_record.specs.InnerPlan.{carried-out, plan-fits, PlannedRecord}
@@ -47,22 +49,22 @@ module _ (capacity b page frame : ℕ) (grow : Bool) (h : Header) (pages : ℕ) 
     passed-for : (ps : List ℕ) → length ps ≡ pages → index-refusal capacity b h (length ps) (length fs) (length hs) ≡ 0
     passed-for ps l = number-for capacity b h pages ps fs hs 0 l passed
 
-    pub place-asks : (s : Header) → s ≡ started frame h → (s .«frame_index_blocks» ≤ b) × (b ≤ 16)
+    pub place-asks : (s : IndexCells) → s ≡ started frame h → (s .«frame_index_blocks» ≤ b) × (b ≤ 16)
     place-asks s e =
         let good = passed-settings capacity b h pages (length fs) (length hs) passed in
-        let sb : s .«frame_index_blocks» ≡ h .«frame_index_blocks» = ap (λ (x : Header). x .«frame_index_blocks») e ∙ started-blocks frame h in
+        let sb : s .«frame_index_blocks» ≡ h .«frame_index_blocks» = ap (λ (x : IndexCells). x .«frame_index_blocks») e ∙ started-blocks frame h in
         (omega arith, omega arith)
 
-    pub drops-it : (s d : Header) (r : Place) → s ≡ started frame h → r ≡ placed capacity b grow s → r ≡ NoPlace → d ≡ header-with frame-index-overflowed 1 s → Planned (Dropped d)
+    pub drops-it : (s d : IndexCells) (r : Place) → s ≡ started frame h → r ≡ placed capacity b grow s → r ≡ NoPlace → d ≡ cells-with frame-index-overflowed 1 s → Planned (Dropped d)
     drops-it s d r es er en ed =
         let at : placed capacity b grow (started frame h) ≡ NoPlace = ap (placed capacity b grow) (sym es) ∙ (sym er ∙ en) in
-        let left : header-with frame-index-overflowed 1 (started frame h) ≡ d = ap (header-with frame-index-overflowed 1) (sym es) ∙ sym ed in
+        let left : cells-with frame-index-overflowed 1 (started frame h) ≡ d = ap (cells-with frame-index-overflowed 1) (sym es) ∙ sym ed in
         record {
-          does-it = λ z p ps l. record-dropped capacity b page frame grow z h ps fs hs p (passed-for ps l) at ∙ ap (λ (x : Header). done dropped (index-in z x ps fs hs) p) left;
+          does-it = λ z p ps l. record-dropped capacity b page frame grow z h ps fs hs p (passed-for ps l) at ∙ ap (λ (x : IndexCells). done dropped (index-in z (with-cells x h) ps fs hs) p) left;
           has-room = tt;
         }
 
-    module _ (s g : Header) (r : Place) (es : s ≡ started frame h) (er : r ≡ placed capacity b grow s) (eg : r ≡ AtEnd g) where
+    module _ (s g : IndexCells) (r : Place) (es : s ≡ started frame h) (er : r ≡ placed capacity b grow s) (eg : r ≡ AtEnd g) where
       abbrev n : ℕ
       n = g .«frame_index_len»
 
@@ -99,8 +101,8 @@ module _ (capacity b page frame : ℕ) (grow : Bool) (h : Header) (ps fs hs : Li
   pub carry : (case : Plan) → plan ≡ case → (z : Memory) (p : Process) → after (record-frame capacity b page frame grow) (index-in z h ps fs hs) p ≡ carried-out case page frame z h ps fs hs p
   carry case e z p = r .does-it z p ps refl ∙ ap (λ (x : Plan). carried-out x page frame z h ps fs hs p) e
 
-  pub first-fits : (g : Header) → plan ≡ First g → HasRoom (g .«frame_index_len») (length ps) (length fs) (length hs)
+  pub first-fits : (g : IndexCells) → plan ≡ First g → HasRoom (g .«frame_index_len») (length ps) (length fs) (length hs)
   first-fits g e = subst (λ (x : Plan). plan-fits x (length ps) (length fs) (length hs)) e (r .has-room)
 
-  pub next-fits : (g : Header) (c : ℕ) → plan ≡ Next g c → HasRoom (g .«frame_index_len») (length ps) (length fs) (length hs) × (c < 8192)
+  pub next-fits : (g : IndexCells) (c : ℕ) → plan ≡ Next g c → HasRoom (g .«frame_index_len») (length ps) (length fs) (length hs) × (c < 8192)
   next-fits g c e = subst (λ (x : Plan). plan-fits x (length ps) (length fs) (length hs)) e (r .has-room)

@@ -6,27 +6,28 @@ use Prim.Native.Nat.{ℕ, _+_, _<_}
 use lib.ListN.{length, set}
 use Rattle.wal_types.specs.declared.Header.{Header}
 use Rattle.wal_types.specs.Memory.{Memory, Process}
-use Rattle.wal_types.specs.Store.{frame-index-len, header-with}
+use Rattle.wal_types.specs.Store.{frame-index-len}
 use Rattle.wal_types.specs.Call.{refused, stored, dropped, Done, done, after}
 use Rattle.index_hash.specs.Block.{cleared, inserted}
 use Rattle.index_record.specs.declared.record.Plan.{Plan}
 use Rattle.index_record.specs.declared.record.Plan.the-variants.{First, Next, Dropped, Refused}
 use Rattle.index_find.specs.Index.{block-of, place-of, block-cells-of, with-block, HasRoom, index-in}
+use Rattle.index_end.specs.Cells.{cells-with, with-cells}
 use Rattle.index_record.specs.Record.{record-frame}
 
 -- What a plan comes to: the answer, and the memory in closed form.
 abbrev pub carried-out : Plan → ℕ → ℕ → Memory → Header → List ℕ → List ℕ → List ℕ → Process → Done
 carried-out (First g) page frame z h ps fs hs p =
     done stored
-    (index-in z (header-with frame-index-len (g .«frame_index_len» + 1) g) (set ps (g .«frame_index_len») page) (set fs (g .«frame_index_len») frame)
+    (index-in z (with-cells (cells-with frame-index-len (g .«frame_index_len» + 1) g) h) (set ps (g .«frame_index_len») page) (set fs (g .«frame_index_len») frame)
     (with-block (block-of (g .«frame_index_len»)) (inserted cleared 0 page) hs))
     p
 carried-out (Next g c) page frame z h ps fs hs p =
     done stored
-    (index-in z (header-with frame-index-len (g .«frame_index_len» + 1) g) (set ps (g .«frame_index_len») page) (set fs (g .«frame_index_len») frame)
+    (index-in z (with-cells (cells-with frame-index-len (g .«frame_index_len» + 1) g) h) (set ps (g .«frame_index_len») page) (set fs (g .«frame_index_len») frame)
     (with-block (block-of (g .«frame_index_len»)) (set (block-cells-of (block-of (g .«frame_index_len»)) hs) c (place-of (g .«frame_index_len») + 1)) hs))
     p
-carried-out (Dropped g) page frame z h ps fs hs p = done dropped (index-in z g ps fs hs) p
+carried-out (Dropped g) page frame z h ps fs hs p = done dropped (index-in z (with-cells g h) ps fs hs) p
 carried-out (Refused n) page frame z h ps fs hs p = done (refused n) (index-in z h ps fs hs) p
 
 -- the lent parts have room for what the plan stores

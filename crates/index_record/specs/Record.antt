@@ -3,7 +3,6 @@ use mathlib.Core.Bool.{Bool, true, false, not, _&&_, cond}
 use mathlib.Core.List.{List, [], _∷_, _++_}
 use Prim.Native.Nat.{ℕ, _+_}
 use lib.Dec.{eqb}
-use Rattle.wal_types.specs.declared.Header.{Header}
 use Rattle.wal_types.specs.Memory.{Memory}
 use Rattle.wal_types.specs.Store.{to-header, frame-index-len, frame-index-overflowed, frame-index-blocks, to-page, to-frame, Piece, one, when, _then_}
 use Rattle.wal_types.specs.Refusal.{Test, _if_, frame-order, hash-full}
@@ -11,8 +10,8 @@ use Rattle.wal_types.specs.Call.{Call, Answer, refused, stored, dropped, does, 
 use Rattle.index_hash.specs.declared.Cell.{Cell}
 use Rattle.index_hash.specs.declared.Cell.the-variants.{Empty, Full}
 use Rattle.index_hash.specs.Block.{empty-cell}
-use Rattle.index_record.specs.declared.record.Record.{Record}
-use Rattle.index_record.specs.declared.record.Record.the-variants.{Stored, Dropped, Refused}
+use Rattle.index_record.specs.declared.record.RecordAnswer.{RecordAnswer}
+use Rattle.index_record.specs.declared.record.RecordAnswer.the-variants.{Stored, Dropped, Refused}
 use Rattle.index_find.specs.Index.{index-tests, block-of, place-of, block-cells-of, clear-block, insert-entry}
 use Rattle.index_end.specs.Place.{resets, started, blocks-full, drops, out-of-order}
 
@@ -71,13 +70,8 @@ unfoldable pub record-frame : ℕ → ℕ → ℕ → ℕ → Bool → Call
 record-frame capacity b page frame grow =
     unless (λ m p. record-tests capacity b page frame grow m) (records capacity b page frame grow)
 
--- What each case of the answer tells, and the header that it leaves.
-abbrev pub record-answer : Record → Answer
-record-answer (Stored h) = stored
-record-answer (Dropped h) = dropped
+-- What each case of the answer tells.
+abbrev pub record-answer : RecordAnswer → Answer
+record-answer Stored = stored
+record-answer Dropped = dropped
 record-answer (Refused n) = refused n
-
-abbrev pub record-header : Header → Record → Header
-record-header before (Stored h) = h
-record-header before (Dropped h) = h
-record-header before (Refused n) = before

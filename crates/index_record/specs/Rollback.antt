@@ -2,12 +2,11 @@
 use mathlib.Core.Bool.{not}
 use Prim.Native.Nat.{ℕ, _-_}
 use lib.Dec.{eqb, ltb}
-use Rattle.wal_types.specs.declared.Header.{Header}
 use Rattle.wal_types.specs.Memory.{Memory}
 use Rattle.wal_types.specs.Store.{to-header, frame-index-len, Piece, one, when, _then_}
 use Rattle.wal_types.specs.Call.{Call, Answer, refused, kept, does, unless}
-use Rattle.index_record.specs.declared.rollback.Rollback.{Rollback}
-use Rattle.index_record.specs.declared.rollback.Rollback.the-variants.{Kept, Refused}
+use Rattle.index_record.specs.declared.rollback.RollbackAnswer.{RollbackAnswer}
+use Rattle.index_record.specs.declared.rollback.RollbackAnswer.the-variants.{Kept, Refused}
 use Rattle.index_find.specs.Index.{index-tests, block-of, place-of, clear-block, insert-entries}
 use Rattle.index_end.specs.Kept.{kept-of}
 
@@ -27,11 +26,7 @@ unfoldable pub rollback-frames : ℕ → ℕ → ℕ → Call
 rollback-frames capacity b bound =
     unless (λ m p. index-tests capacity b m) (λ m. does (kept (kept-len bound m)) (rollback-stores (kept-len bound m)) m)
 
--- What each case of the answer tells, and the header that it leaves.
-abbrev pub rollback-answer : Rollback → Answer
-rollback-answer (Kept h) = kept (h .«frame_index_len»)
+-- What each case of the answer tells.
+abbrev pub rollback-answer : RollbackAnswer → Answer
+rollback-answer (Kept n) = kept n
 rollback-answer (Refused n) = refused n
-
-abbrev pub rollback-header : Header → Rollback → Header
-rollback-header before (Kept h) = h
-rollback-header before (Refused n) = before

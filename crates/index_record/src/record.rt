@@ -1,4 +1,6 @@
 // record_frame: an entry more at the end of the index.
+use index_end::cells;
+use index_end::cells::IndexCells;
 use index_end::place;
 use index_end::place::Place;
 use index_find::index;
@@ -8,23 +10,29 @@ ghost use mathlib.Core.Path.{_≡_};
 ghost use Prim.Native.Nat.{_+_, _/_, _%_, _<_};
 ghost use lib.ListN.{length, set};
 ghost use Rattle.index_hash.specs.Block.{cleared, inserted};
+ghost use Rattle.index_end.specs.Cells.{with-cells};
 ghost use Rattle.index_find.specs.Index.{block-cells-of, with-block, HasRoom, IndexCall};
-ghost use Rattle.index_record.specs.Record.{record-frame, record-answer, record-header};
+ghost use Rattle.index_record.specs.Record.{record-frame, record-answer};
 ghost use Rattle.index_record.specs.InnerPlan.{PlannedRecord};
 
-// Stored and Dropped have the header as the call leaves it. Refused changes nothing.
-pub enum Record {
-    Stored(Header),
-    Dropped(Header),
+pub enum RecordAnswer {
+    Stored,
+    Dropped,
     Refused(u32),
 }
 
+// The answer, and the index's cells of the header as the call leaves them. Refused changes nothing.
+pub struct Recorded {
+    pub answer: RecordAnswer,
+    pub cells: IndexCells,
+}
+
 // What a record is to do: write the first entry of a block, or another one in the cell found for it, at the end of the
-// index of this header; leave this header, with the flag set; or be refused.
+// index of these cells; leave these cells, with the flag set; or be refused.
 pub enum Plan {
-    First(Header),
-    Next(Header, usize),
-    Dropped(Header),
+    First(IndexCells),
+    Next(IndexCells, usize),
+    Dropped(IndexCells),
     Refused(u32),
 }
 
@@ -93,7 +101,7 @@ fn plan_record(
     if refusal != 0 {
         return Plan::Refused(refusal);
     }
-    let start = place::started_header(header, frame_id);
+    let start = place::started_cells(header, frame_id);
     let Place::AtEnd(grown) = place::place_entry(capacity, max_blocks, start, grow) else {
         return Plan::Dropped(place::overflowed(start));
     };
@@ -122,8 +130,8 @@ pub fn record_frame(
     page_id: u64,
     frame_id: u64,
     grow: bool,
-) -> Record
-    ensures { λ r. ⌜ IndexCall (record-frame capacity «max_blocks» «page_id» «frame_id» grow) header (now (pages .entry)) (now (frames .entry)) (now (hash .entry)) (record-answer r) (record-header header r) (now (pages .exit)) (now (frames .exit)) (now (hash .exit)) ⌝ }
+) -> Recorded
+    ensures { λ r. ⌜ IndexCall (record-frame capacity «max_blocks» «page_id» «frame_id» grow) header (now (pages .entry)) (now (frames .entry)) (now (hash .entry)) (record-answer (r .answer)) (with-cells (r .cells) header) (now (pages .exit)) (now (frames .exit)) (now (hash .exit)) ⌝ }
 {
     let plan = plan_record(
         capacity,
@@ -138,20 +146,33 @@ pub fn record_frame(
     );
     match plan {
         Plan::Refused(number) => {
-            return Record::Refused(number);
+            let cells = cells::index_cells(header);
+            return Recorded {
+                answer: RecordAnswer::Refused(number),
+                cells: cells,
+            };
         }
         Plan::Dropped(next) => {
-            return Record::Dropped(next);
+            return Recorded {
+                answer: RecordAnswer::Dropped,
+                cells: next,
+            };
         }
         Plan::First(grown) => {
             let n = grown.frame_index_len as usize;
             enter_first(pages, frames, hash, n, page_id, frame_id);
-            return Record::Stored(place::longer(grown));
+            return Recorded {
+                answer: RecordAnswer::Stored,
+                cells: place::longer(grown),
+            };
         }
         Plan::Next(grown, cell) => {
             let n = grown.frame_index_len as usize;
             enter_next(pages, frames, hash, n, cell, page_id, frame_id);
-            return Record::Stored(place::longer(grown));
+            return Recorded {
+                answer: RecordAnswer::Stored,
+                cells: place::longer(grown),
+            };
         }
     }
 }

@@ -4,8 +4,10 @@ use crate::state;
 use crate::state::State;
 use index_find::find::Found;
 use index_find::find::Watermark;
-use index_record::record::Record;
-use index_record::rollback::Rollback;
+use index_record::record::RecordAnswer;
+use index_record::record::Recorded;
+use index_record::rollback::RollbackAnswer;
+use index_record::rollback::RolledBack;
 use list_latest::List;
 use program_columns::answer::Answer;
 ghost use Prim.Native.Nat.{_≤_};
@@ -28,13 +30,16 @@ fn refused(state: State, out: &mut [u8], letter: u8, number: u32) -> State
 }
 
 // R: 1 stored, 0 dropped.
-fn record_answer(state: State, out: &mut [u8], done: Record) -> State
+fn record_answer(state: State, out: &mut [u8], recorded: Recorded) -> State
     requires { ⌜ 26 ≤ length (now out) ⌝ }
 {
-    match done {
-        Record::Stored(next) => accepted(state::with_header(state, next), out, b'R', 1),
-        Record::Dropped(next) => accepted(state::with_header(state, next), out, b'R', 0),
-        Record::Refused(number) => refused(state, out, b'R', number),
+    let answer = recorded.answer;
+    let cells = recorded.cells;
+    let next = state::with_cells(state, cells);
+    match answer {
+        RecordAnswer::Stored => accepted(next, out, b'R', 1),
+        RecordAnswer::Dropped => accepted(next, out, b'R', 0),
+        RecordAnswer::Refused(number) => refused(next, out, b'R', number),
     }
 }
 
@@ -50,7 +55,7 @@ pub fn record(
     requires { ⌜ 26 ≤ length (now out) ⌝ }
 {
     let header = state.header;
-    let done = index_record::record::record_frame(
+    let recorded = index_record::record::record_frame(
         CAPACITY,
         MAX_BLOCKS,
         header,
@@ -61,23 +66,19 @@ pub fn record(
         frame,
         false,
     );
-    record_answer(state, out, done)
+    record_answer(state, out, recorded)
 }
 
 // B: the length kept.
-fn rollback_answer(state: State, out: &mut [u8], done: Rollback) -> State
+fn rollback_answer(state: State, out: &mut [u8], rolled_back: RolledBack) -> State
     requires { ⌜ 26 ≤ length (now out) ⌝ }
 {
-    match done {
-        Rollback::Kept(next) => {
-            accepted(
-                state::with_header(state, next),
-                out,
-                b'B',
-                next.frame_index_len as u64,
-            )
-        }
-        Rollback::Refused(number) => refused(state, out, b'B', number),
+    let answer = rolled_back.answer;
+    let cells = rolled_back.cells;
+    let next = state::with_cells(state, cells);
+    match answer {
+        RollbackAnswer::Kept(len) => accepted(next, out, b'B', len as u64),
+        RollbackAnswer::Refused(number) => refused(next, out, b'B', number),
     }
 }
 
@@ -92,7 +93,7 @@ pub fn rollback(
     requires { ⌜ 26 ≤ length (now out) ⌝ }
 {
     let header = state.header;
-    let done = index_record::rollback::rollback_frames(
+    let rolled_back = index_record::rollback::rollback_frames(
         CAPACITY,
         MAX_BLOCKS,
         header,
@@ -101,7 +102,7 @@ pub fn rollback(
         hash,
         frame,
     );
-    rollback_answer(state, out, done)
+    rollback_answer(state, out, rolled_back)
 }
 
 // F: the frame, or blanks for none.

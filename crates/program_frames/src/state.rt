@@ -1,4 +1,6 @@
 // What the program keeps from line to line, beside the memory in slices. It goes in by value and comes back.
+use index_end::cells;
+use index_end::cells::IndexCells;
 use program_lines::input::Input;
 use wal_types::Header;
 ghost use mathlib.Core.Path.{_≡_};
@@ -35,9 +37,11 @@ pub fn start() -> State {
     }
 }
 
-pub fn with_header(state: State, header: Header) -> State {
+// The header with the index's cells that a call leaves.
+pub fn with_cells(state: State, cells: IndexCells) -> State {
+    let header = state.header;
     let mut next = state;
-    next.header = header;
+    next.header = cells::with_index_cells(header, cells);
     next
 }
 

@@ -15,6 +15,7 @@ use Rattle.wal_types.specs.Memory.{Memory, Process, with-header, with-local-rea
 use Rattle.wal_types.specs.Call.{Pair, pair, Answer, refused, ok, value, stored, kept, frame-found, listed, slot-taken, accepted, Done, done, after}
 use Rattle.reader_bitmap.specs.Bit.{clear-bit}
 use Rattle.header_publish.specs.Publish.{publish-commit}
+use Rattle.index_end.specs.declared.cells.IndexCells.{IndexCells}
 use Rattle.index_end.specs.declared.place.Place.the-variants.{AtEnd}
 use Rattle.index_find.specs.declared.find.Watermark.the-variants.{NoWatermark}
 use Rattle.index_find.specs.declared.find.Lookup.the-variants.{Frame, NoFrame}
@@ -110,8 +111,12 @@ header-of len published count =
       «checkpoint_owner» = 0;
     }
 
+-- the index's cells with so many entries, and the published frame
+abbrev cells-at : ℕ → ℕ → IndexCells
+cells-at len published = record { «frame_index_blocks» = 1; «frame_index_len» = len; «frame_index_overflowed» = 0; «max_frame» = published }
+
 -- a record above the last frame is stored at the end
-module _ (page frame : ℕ) (m : Memory) (g : Grown 4096 1 m) (h : Header) (end : placed 4096 1 false (started frame (m .header)) ≡ AtEnd h) (order : out-of-order frame (h .«frame_index_len») (m .frames) ≡ false) where
+module _ (page frame : ℕ) (m : Memory) (g : Grown 4096 1 m) (h : IndexCells) (end : placed 4096 1 false (started frame (m .header)) ≡ AtEnd h) (order : out-of-order frame (h .«frame_index_len») (m .frames) ≡ false) where
   is-stored : (p : Process) → after (record-frame 4096 1 page frame false) m p ≡ done stored (with-entry page frame m h) p
   is-stored p = stores 4096 1 page frame false m p g h end (grown-accepted 4096 1 m g refl refl) order
 
@@ -120,13 +125,13 @@ module _ (page frame : ℕ) (m : Memory) (g : Grown 4096 1 m) (h : Header) (end 
 
 -- BEFORE THE HOLD: (7, 1), (8199, 2) and (7, 3) are recorded, and 3 is published
 abbrev m1 : Memory
-m1 = with-entry 7 1 fresh-memory (header-of 0 0 0)
+m1 = with-entry 7 1 fresh-memory (cells-at 0 0)
 
 abbrev m2 : Memory
-m2 = with-entry 8199 2 m1 (header-of 1 0 0)
+m2 = with-entry 8199 2 m1 (cells-at 1 0)
 
 abbrev m3 : Memory
-m3 = with-entry 7 3 m2 (header-of 2 0 0)
+m3 = with-entry 7 3 m2 (cells-at 2 0)
 
 abbrev m4 : Memory
 m4 = with-header m3 (header-of 3 3 1)
@@ -134,14 +139,14 @@ m4 = with-header m3 (header-of 3 3 1)
 g0 : Grown 4096 1 fresh-memory
 g0 = fresh-grown 4096 1 fresh-memory 1 2 (omega arith) (fresh .memory-fresh) fresh-long
 
-end1 : placed 4096 1 false (started 1 (fresh-memory .header)) ≡ AtEnd (header-of 0 0 0)
+end1 : placed 4096 1 false (started 1 (fresh-memory .header)) ≡ AtEnd (cells-at 0 0)
 unfolding placed started
 end1 = refl
 
 g1 : Grown 4096 1 m1
-g1 = stays-grown 7 1 fresh-memory g0 (header-of 0 0 0) end1 refl
+g1 = stays-grown 7 1 fresh-memory g0 (cells-at 0 0) end1 refl
 
-end2 : placed 4096 1 false (started 2 (m1 .header)) ≡ AtEnd (header-of 1 0 0)
+end2 : placed 4096 1 false (started 2 (m1 .header)) ≡ AtEnd (cells-at 1 0)
 unfolding placed started
 end2 = refl
 
@@ -150,9 +155,9 @@ unfolding zeros
 order2 = refl
 
 g2 : Grown 4096 1 m2
-g2 = stays-grown 8199 2 m1 g1 (header-of 1 0 0) end2 order2
+g2 = stays-grown 8199 2 m1 g1 (cells-at 1 0) end2 order2
 
-end3 : placed 4096 1 false (started 3 (m2 .header)) ≡ AtEnd (header-of 2 0 0)
+end3 : placed 4096 1 false (started 3 (m2 .header)) ≡ AtEnd (cells-at 2 0)
 unfolding placed started
 end3 = refl
 
@@ -161,7 +166,7 @@ unfolding zeros
 order3 = refl
 
 g3 : Grown 4096 1 m3
-g3 = stays-grown 7 3 m2 g2 (header-of 2 0 0) end3 order3
+g3 = stays-grown 7 3 m2 g2 (cells-at 2 0) end3 order3
 
 g4 : Grown 4096 1 m4
 g4 = same-grown 4096 1 m3 g3 m4 (record { same-len = refl; same-blocks = refl; same-pages = refl; same-frames = refl; same-hash = refl })
@@ -184,9 +189,9 @@ w4 = left-by w3 1 (done ok m4 fresh-process)
 
 trace-before : Trace small before fresh-world (stored ∷ stored ∷ stored ∷ ok ∷ []) w4
 trace-before =
-    step (done stored m1 fresh-process) (is-stored 7 1 fresh-memory g0 (header-of 0 0 0) end1 refl fresh-process)
-    (step (done stored m2 fresh-process) (is-stored 8199 2 m1 g1 (header-of 1 0 0) end2 order2 fresh-process)
-    (step (done stored m3 fresh-process) (is-stored 7 3 m2 g2 (header-of 2 0 0) end3 order3 fresh-process)
+    step (done stored m1 fresh-process) (is-stored 7 1 fresh-memory g0 (cells-at 0 0) end1 refl fresh-process)
+    (step (done stored m2 fresh-process) (is-stored 8199 2 m1 g1 (cells-at 1 0) end2 order2 fresh-process)
+    (step (done stored m3 fresh-process) (is-stored 7 3 m2 g2 (cells-at 2 0) end3 order3 fresh-process)
     (step (done ok m4 fresh-process) (commit4 fresh-process) over)))
 
 -- THE HOLD BEGINS: slot 0 is taken for owner 10 at mark 3
@@ -212,13 +217,13 @@ unfolding unregister-reader in-registry
 release6 = refl
 
 abbrev m7 : Memory
-m7 = with-entry 9 4 m5 (header-of 3 3 1)
+m7 = with-entry 9 4 m5 (cells-at 3 3)
 
 abbrev m8 : Memory
-m8 = with-entry 7 5 m7 (header-of 4 3 1)
+m8 = with-entry 7 5 m7 (cells-at 4 3)
 
 abbrev m9 : Memory
-m9 = with-entry 8199 6 m8 (header-of 5 3 1)
+m9 = with-entry 8199 6 m8 (cells-at 5 3)
 
 abbrev m10 : Memory
 m10 = index-in m9 (header-of 5 3 1) (m9 .pages) (m9 .frames) (with-block 0 (built (block-pages-of 0 (m9 .pages)) 5) (m9 .hash))
@@ -226,7 +231,7 @@ m10 = index-in m9 (header-of 5 3 1) (m9 .pages) (m9 .frames) (with-block 0 (buil
 abbrev m11 : Memory
 m11 = with-header m10 (header-of 5 5 2)
 
-end7 : placed 4096 1 false (started 4 (m5 .header)) ≡ AtEnd (header-of 3 3 1)
+end7 : placed 4096 1 false (started 4 (m5 .header)) ≡ AtEnd (cells-at 3 3)
 unfolding placed started
 end7 = refl
 
@@ -235,9 +240,9 @@ unfolding zeros
 order7 = refl
 
 g7 : Grown 4096 1 m7
-g7 = stays-grown 9 4 m5 g5 (header-of 3 3 1) end7 order7
+g7 = stays-grown 9 4 m5 g5 (cells-at 3 3) end7 order7
 
-end8 : placed 4096 1 false (started 5 (m7 .header)) ≡ AtEnd (header-of 4 3 1)
+end8 : placed 4096 1 false (started 5 (m7 .header)) ≡ AtEnd (cells-at 4 3)
 unfolding placed started
 end8 = refl
 
@@ -246,9 +251,9 @@ unfolding zeros
 order8 = refl
 
 g8 : Grown 4096 1 m8
-g8 = stays-grown 7 5 m7 g7 (header-of 4 3 1) end8 order8
+g8 = stays-grown 7 5 m7 g7 (cells-at 4 3) end8 order8
 
-end9 : placed 4096 1 false (started 6 (m8 .header)) ≡ AtEnd (header-of 5 3 1)
+end9 : placed 4096 1 false (started 6 (m8 .header)) ≡ AtEnd (cells-at 5 3)
 unfolding placed started
 end9 = refl
 
@@ -257,7 +262,7 @@ unfolding zeros
 order9 = refl
 
 g9 : Grown 4096 1 m9
-g9 = stays-grown 8199 6 m8 g8 (header-of 5 3 1) end9 order9
+g9 = stays-grown 8199 6 m8 g8 (cells-at 5 3) end9 order9
 
 kept10 : 5 ≡ kept-len 5 m9
 unfolding zeros kept-of
@@ -299,9 +304,9 @@ w11 = left-by w10 1 (done ok m11 fresh-process)
 trace-during : Trace small during w5 (refused 7 ∷ stored ∷ stored ∷ stored ∷ kept 5 ∷ ok ∷ []) w11
 trace-during =
     step (done (refused 7) m5 fresh-process) release6
-    (step (done stored m7 fresh-process) (is-stored 9 4 m5 g5 (header-of 3 3 1) end7 order7 fresh-process)
-    (step (done stored m8 fresh-process) (is-stored 7 5 m7 g7 (header-of 4 3 1) end8 order8 fresh-process)
-    (step (done stored m9 fresh-process) (is-stored 8199 6 m8 g8 (header-of 5 3 1) end9 order9 fresh-process)
+    (step (done stored m7 fresh-process) (is-stored 9 4 m5 g5 (cells-at 3 3) end7 order7 fresh-process)
+    (step (done stored m8 fresh-process) (is-stored 7 5 m7 g7 (cells-at 4 3) end8 order8 fresh-process)
+    (step (done stored m9 fresh-process) (is-stored 8199 6 m8 g8 (cells-at 5 3) end9 order9 fresh-process)
     (step (done (kept 5) m10 fresh-process) (rollback10 fresh-process)
     (step (done ok m11 fresh-process) (commit11 fresh-process) over)))))
 

@@ -47,13 +47,13 @@ use Rattle.wal_types.proofs.Header as T
 use Rattle.wal_types.proofs.Header.Laws as T′
 use Rattle.index_record.specs.Rollback.{rollback-frames}
 use Rattle.c_index_replies.specs.declared.index_reply.IndexReply.{IndexReply}
-use Rattle.c_index_replies.specs.declared.index_reply.IndexCells.{IndexCells}
+use Rattle.c_index_replies.specs.declared.index_reply.IndexDone.{IndexDone}
 use Rattle.c_index_replies.specs.declared.index_reply.IndexLeft.{IndexLeft}
-use Rattle.c_index_replies.specs.IndexReply.{with-cells, IndexReplied}
+use Rattle.c_index_replies.specs.IndexReply.{index-left, IndexReplied}
 use Rattle.c_index_replies.proofs.index_reply.IndexReply as Rep
 use Rattle.c_index_replies.proofs.index_reply.IndexReply.Laws as Rep′
-use Rattle.c_index_replies.proofs.index_reply.IndexCells as K
-use Rattle.c_index_replies.proofs.index_reply.IndexCells.Laws as K′
+use Rattle.c_index_replies.proofs.index_reply.IndexDone as K
+use Rattle.c_index_replies.proofs.index_reply.IndexDone.Laws as K′
 use Rattle.c_index_replies.proofs.index_reply.IndexLeft as B
 use Rattle.c_index_replies.proofs.index_reply.IndexLeft.Laws as B′
 use Rattle.c_index.proofs.IndexParts.{R, mach, reply-val, header-of, reply-of}
@@ -86,8 +86,8 @@ module _ {M : Type 1} (𝓤 : URA M) (H : Heap 𝓤) (A : Atoms 𝓤) (W : Given
     abbrev Promised : IndexReply → Header → List ℕ → Type 0
     Promised r h′ hash′ = IndexReplied (rollback-frames capacity blocks bound) h (pages .now) (frames .now) (hash .now) r h′ (pages .now) (frames .now) hash′
 
-    abbrev Planned : IndexCells → List ℕ → Type 0
-    Planned c hash′ = Promised (c .reply) (with-cells c h .header) hash′
+    abbrev Planned : IndexDone → List ℕ → Type 0
+    Planned c hash′ = Promised (c .reply) (index-left c h .header) hash′
 
     abbrev args : ℕ × (ℕ × (RefT Header × (RefT (List ℕ) × (RefT (List ℕ) × (RefT (List ℕ) × (ℕ × Unit {0}))))))
     args = (capacity, (blocks, (record { ptr = (b, o); name = γ; now = h }, (pages, (frames, (hash, (bound, tt)))))))
@@ -127,14 +127,14 @@ module _ {M : Type 1} (𝓤 : URA M) (H : Heap 𝓤) (A : Atoms 𝓤) (W : Given
     Lasts = Unit {0} × (Unit {0} × (Unit {0} × (Unit {0} × (Unit {0} × (List ℕ × (Unit {0} × Unit {0}))))))
 
     -- what `left` is passed, and what it says
-    abbrev to-left : IndexCells → Val → Left 𝓤 H A at-mem run .Ghost
+    abbrev to-left : IndexDone → Val → Left 𝓤 H A at-mem run .Ghost
     to-left c v = ((tt, tt, tt, (h, (c, tt)), (mach h ∷ [], (v ∷ [], tt))), tt)
 
-    goes-left : (c : IndexCells) (v : Val) → ent 𝓤 (sep 𝓤 (sem 𝓤 H A ftrue) (sem 𝓤 H A (owns (R ∷ K.the-row ∷ []) (h, (c, tt)) (mach h ∷ [], (v ∷ [], tt))))) (Left 𝓤 H A at-mem run .pre (to-left c v))
+    goes-left : (c : IndexDone) (v : Val) → ent 𝓤 (sep 𝓤 (sem 𝓤 H A ftrue) (sem 𝓤 H A (owns (R ∷ K.the-row ∷ []) (h, (c, tt)) (mach h ∷ [], (v ∷ [], tt))))) (Left 𝓤 H A at-mem run .pre (to-left c v))
     goes-left c v = qed W (‵ ftrue ∷ ‵ (owns (R ∷ K.the-row ∷ []) (h, (c, tt)) (mach h ∷ [], (v ∷ [], tt))) ∷ []) ∵ join ! $ frame ! $ done !
 
-    said-left : (c : IndexCells) (l : IndexLeft) → ent 𝓤 (ensured 𝓤 H A left.ended (left.clauses 𝓤 H A at-mem run) tt (h, (c, tt)) tt l) (fact 𝓤 (l ≡ with-cells c h))
-    said-left c l = exE 𝓤 _ (λ ws. snd∗ 𝓤 (sem 𝓤 H A (lasts left.ended tt (h, (c, tt)) ws)) (fact 𝓤 (l ≡ with-cells c h)))
+    said-left : (c : IndexDone) (l : IndexLeft) → ent 𝓤 (ensured 𝓤 H A left.ended (left.clauses 𝓤 H A at-mem run) tt (h, (c, tt)) tt l) (fact 𝓤 (l ≡ index-left c h))
+    said-left c l = exE 𝓤 _ (λ ws. snd∗ 𝓤 (sem 𝓤 H A (lasts left.ended tt (h, (c, tt)) ws)) (fact 𝓤 (l ≡ index-left c h)))
 
     module _ (C : Calls 𝓤 H) (Λ : Loops 𝓤 H) (fm : FmC 𝓤 H (W .laws) C) (known : Triple 𝓤 (C core-def.name) (Core 𝓤 H A at-mem run)) (known-left : Triple 𝓤 (C left-def.name) (Left 𝓤 H A at-mem run)) where
       walk : ent 𝓤 (onEntry 𝓤 H A entry.signature (κ0, (κ1, (κ2, (κ3, tt)))) (q0, (q1, (q2, (q3, tt)))) args vals) (WpFn 𝓤 H C Λ code.function flat Post)
@@ -163,7 +163,7 @@ module _ {M : Type 1} (𝓤 : URA M) (H : Heap 𝓤) (A : Atoms 𝓤) (W : Given
           owned ! u32 (Is u32) (uint-makes 𝓤 H A W w32) capacity _ (refl, capacity-fits) $ fjoin ! $ nothing ! $ move ! (8 ∷ 0 ∷ []) $ join ! $ move ! (8 ∷ 0 ∷ []) $ join ! $ move ! (8 ∷ 0 ∷ []) $ join ! $
           use2 W (raw (Core 𝓤 H A at-mem run .pre to-core)) goes-core $
           calls-at ! fm (Core 𝓤 H A at-mem run) known to-core (and-then ! (load ! (from ! (stop !)) (look ! 29 refl)) (and-then ! (load ! (from ! (stop !)) (look ! 27 refl)) (and-then ! (load ! (from ! (stop !)) (look ! 11 refl)) (and-then ! (load ! (from ! (stop !)) (look ! 23 refl)) (and-then ! (load ! (from ! (stop !)) (look ! 21 refl)) (and-then ! (load ! (from ! (stop !)) (look ! 7 refl)) (and-then ! (load ! (from ! (stop !)) (look ! 17 refl)) (no-more !)))))))) (λ v.
-          use1 W (later (some (λ (c : IndexCells). ((‵ (flft κ1 q1) ⊛ ‵ (flft κ2 q2) ⊛ ‵ (flft κ3 q3) ⊛ ‵ ftrue) ⊛ ‵ (K.the-row .own c (v ∷ []))) ⊛ raw (ensured 𝓤 H A core.ended (core.clauses 𝓤 H A at-mem run) (κ1, (κ2, (κ3, tt))) core-args tt c)))) (id⊢ 𝓤 _) $ await ! tt $ pick ! (λ c.
+          use1 W (later (some (λ (c : IndexDone). ((‵ (flft κ1 q1) ⊛ ‵ (flft κ2 q2) ⊛ ‵ (flft κ3 q3) ⊛ ‵ ftrue) ⊛ ‵ (K.the-row .own c (v ∷ []))) ⊛ raw (ensured 𝓤 H A core.ended (core.clauses 𝓤 H A at-mem run) (κ1, (κ2, (κ3, tt))) core-args tt c)))) (id⊢ 𝓤 _) $ await ! tt $ pick ! (λ c.
           split ! $ move ! (1 ∷ []) $ use1 W (some (λ (ws : Lasts). ‵ (lasts core.ended (κ1, (κ2, (κ3, tt))) core-args ws) ⊛ raw (fact 𝓤 (Planned c (ws .1 .1 .1 .1 .1 .0))))) (id⊢ 𝓤 _) $ pick ! (λ ws.
           split ! $ move ! (1 ∷ []) $ heard ! (Planned c (ws .1 .1 .1 .1 .1 .0)) (λ e. fsplit ! $ drop ! $ fsplit ! $ drop ! $ fsplit ! $ drop ! $ fsplit ! $ drop ! $ fsplit ! $ drop ! $ fsplit ! $ fsplit ! $ move ! (1 ∷ []) $
           feqL ! (λ hash-kept. move ! (1 ∷ []) $ drop ! $
@@ -175,7 +175,7 @@ module _ {M : Type 1} (𝓤 : URA M) (H : Heap 𝓤) (A : Atoms 𝓤) (W : Given
           nothing ! $ move ! (1 ∷ 0 ∷ []) $ fjoin ! $ owned ! R (Is R) (StructLaws.makes T.the-type T′.the-plain 𝓤 H A) h _ g $ fjoin ! $ nothing ! $ use2 W (raw (Left 𝓤 H A at-mem run .pre (to-left c v))) (goes-left c v) $
           calls-at ! fm (Left 𝓤 H A at-mem run) known-left (to-left c v) (and-then ! (load ! (from ! (stop !)) (look ! 15 refl)) (and-then ! (load ! (from ! (stop !)) (look ! 19 refl)) (no-more !))) (λ u.
           use1 W (later (some (λ (l : IndexLeft). (‵ ftrue ⊛ ‵ (B.the-row .own l (u ∷ []))) ⊛ raw (ensured 𝓤 H A left.ended (left.clauses 𝓤 H A at-mem run) tt (h, (c, tt)) tt l)))) (id⊢ 𝓤 _) $ await ! tt $ pick ! (λ l.
-          split ! $ move ! (1 ∷ []) $ use1 W (raw (fact 𝓤 (l ≡ with-cells c h))) (said-left c l) $ heard ! (l ≡ with-cells c h) (λ as-left. split ! $ drop ! $
+          split ! $ move ! (1 ∷ []) $ use1 W (raw (fact 𝓤 (l ≡ index-left c h))) (said-left c l) $ heard ! (l ≡ index-left c h) (λ as-left. split ! $ drop ! $
           peeks ! B.the-row (Is B.the-row) (shows 𝓤 H A B.the-row) l (u ∷ []) (λ il. drop ! $
           land ! (from ! (stop !)) (init ! 16 refl (StructLaws.lawful B.the-type B′.the-laws 𝓤 H A W .typed l _ il .0)) $
           rewrite ! 16 (λ (x : Val). ‵ (fat fullShare B′.mir l₉ 0 x)) (ap only (StructLaws.tells B.the-type B′.the-laws l (u ∷ []) il)) refl $

@@ -1,6 +1,5 @@
 use Rattle.index_record.specs.Rollback.{rollback-frames}
-use Rattle.c_index_replies.proofs.IndexStores.{rolled-stores}
-use Rattle.c_index_replies.proofs.IndexReplies.{rollback-told}
+use Rattle.c_index_replies.proofs.IndexReplies.{told}
 use borrow.Author.Needs.{needs}
 use Rattle.c_index_replies.proofs.index_reply.rollback_frames.Statement.{statement}
 use Rattle.c_index_replies.proofs.index_reply.rollback_frames.Tie as tie
@@ -8,17 +7,17 @@ use Rattle.c_index_replies.proofs.index_reply.rollback_frames.Tie as ti
 rollback-frames-requires : tie.Need-rollback-frames-requires
 rollback-frames-requires c κs = search needs
 
-rolled-back-requires : tie.Need-rolled-back-requires
-rolled-back-requires c κs = search needs
+rollback-reply-requires : tie.Need-rollback-reply-requires
+rollback-reply-requires c κs = search needs
 
 same-length : tie.Need-same-length
 same-length c = search needs
 
 returns : tie.Need-returns
 returns c =
-    let a = c .before .before .before .before .before .before .before .before .args in
-    rw (c .rolled-back .ensures) (rollback-told (rollback-frames (a .capacity) (a .max-blocks) (a .max-frame)) (rolled-stores (a .capacity) (a .max-blocks) (a .max-frame)) _ _ _ _ _ _ _ (c .before .before .before .rollback-frames .result) (c .before .before .before .rollback-frames .ensures))
+    let a = c .before .before .before .before .before .before .before .before .before .args in
+    told (rollback-frames (a .capacity) (a .max-blocks) (a .max-frame)) _ _ _ _ _ _ _ _ _ _ (c .before .before .before .before .rollback-frames .ensures) (c .rollback-reply .ensures)
 
 pub rollback-frames-spec : {M : Type 1} → statement M
 rollback-frames-spec =
-    tie.close (tie.spec rollback-frames-requires rolled-back-requires same-length returns)
+    tie.close (tie.spec rollback-frames-requires rollback-reply-requires same-length returns)

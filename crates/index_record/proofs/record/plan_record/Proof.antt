@@ -11,13 +11,13 @@ index-refusal-requires c κs = search needs
 returns : tie.Need-returns
 returns c = refuses _ _ _ _ _ _ _ _ _ _ (c .if1 .taken) (c .before .index-refusal .ensures)
 
-started-header-requires : tie.Need-started-header-requires
-started-header-requires c κs = search needs
+started-cells-requires : tie.Need-started-cells-requires
+started-cells-requires c κs = search needs
 
 place-entry-requires : tie.Need-place-entry-requires
 place-entry-requires c κs =
     let a = c .before .before .before .before .before .args in
-    place-asks (a .capacity) (a .max-blocks) (a .page-id) (a .frame-id) (a .grow) (a .header) (a .pages) (a .frames .now) (a .hash .now) (sym (c .before .before .index-refusal .ensures) ∙ c .before .if1 .left) _ (c .started-header .ensures)
+    place-asks (a .capacity) (a .max-blocks) (a .page-id) (a .frame-id) (a .grow) (a .header) (a .pages) (a .frames .now) (a .hash .now) (sym (c .before .before .index-refusal .ensures) ∙ c .before .if1 .left) _ (c .started-cells .ensures)
 
 enum-known-grown : tie.Need-enum-known-grown
 enum-known-grown c = search needs
@@ -29,7 +29,7 @@ overflowed-requires : tie.Need-overflowed-requires
 overflowed-requires c κs = search needs
 
 returns-2 : tie.Need-returns-2
-returns-2 c = drops-it _ _ _ _ _ _ _ _ _ (sym (c .before .before .before .before .before .before .index-refusal .ensures) ∙ c .before .before .before .before .before .if1 .left) _ _ _ (c .before .before .before .before .started-header .ensures) (c .before .before .before .place-entry .ensures) (c .before .enum-told .given .1) (c .overflowed .ensures)
+returns-2 c = drops-it _ _ _ _ _ _ _ _ _ (sym (c .before .before .before .before .before .before .index-refusal .ensures) ∙ c .before .before .before .before .before .if1 .left) _ _ _ (c .before .before .before .before .started-cells .ensures) (c .before .before .before .place-entry .ensures) (c .before .enum-told .given .1) (c .overflowed .ensures)
 
 cast-n : tie.Need-cast-n
 cast-n c = search needs
@@ -37,19 +37,19 @@ cast-n c = search needs
 is-out-of-order-requires : tie.Need-is-out-of-order-requires
 is-out-of-order-requires c κs =
     let a = c .before .before .before .before .before .before .before .before .before .before .args in
-    let r = room (a .capacity) (a .max-blocks) (a .page-id) (a .frame-id) (a .grow) (a .header) (a .pages) (a .frames .now) (a .hash .now) (sym (c .before .before .before .before .before .before .before .index-refusal .ensures) ∙ c .before .before .before .before .before .before .if1 .left) _ _ _ (c .before .before .before .before .before .started-header .ensures) (c .before .before .before .before .place-entry .ensures) (c .before .before .grown .given .1) in
+    let r = room (a .capacity) (a .max-blocks) (a .page-id) (a .frame-id) (a .grow) (a .header) (a .pages) (a .frames .now) (a .hash .now) (sym (c .before .before .before .before .before .before .before .index-refusal .ensures) ∙ c .before .before .before .before .before .before .if1 .left) _ _ _ (c .before .before .before .before .before .started-cells .ensures) (c .before .before .before .before .place-entry .ensures) (c .before .before .grown .given .1) in
     omega arith
 
 returns-3 : tie.Need-returns-3
-returns-3 c = out-of-order-it _ _ _ _ _ _ _ _ _ (sym (c .before .before .before .before .before .before .before .before .before .index-refusal .ensures) ∙ c .before .before .before .before .before .before .before .before .if1 .left) _ _ _ (c .before .before .before .before .before .before .before .started-header .ensures) (c .before .before .before .before .before .before .place-entry .ensures) (c .before .before .before .before .grown .given .1) _ (c .before .is-out-of-order .ensures) (c .if2 .taken)
+returns-3 c = out-of-order-it _ _ _ _ _ _ _ _ _ (sym (c .before .before .before .before .before .before .before .before .before .index-refusal .ensures) ∙ c .before .before .before .before .before .before .before .before .if1 .left) _ _ _ (c .before .before .before .before .before .before .before .started-cells .ensures) (c .before .before .before .before .before .before .place-entry .ensures) (c .before .before .before .before .grown .given .1) _ (c .before .is-out-of-order .ensures) (c .if2 .taken)
 
 returns-4 : tie.Need-returns-4
-returns-4 c = first-it _ _ _ _ _ _ _ _ _ (sym (c .before .before .before .before .before .before .before .before .before .before .index-refusal .ensures) ∙ c .before .before .before .before .before .before .before .before .before .if1 .left) _ _ _ (c .before .before .before .before .before .before .before .before .started-header .ensures) (c .before .before .before .before .before .before .before .place-entry .ensures) (c .before .before .before .before .before .grown .given .1) _ (c .before .before .is-out-of-order .ensures) (c .before .if2 .left) (c .if3 .taken)
+returns-4 c = first-it _ _ _ _ _ _ _ _ _ (sym (c .before .before .before .before .before .before .before .before .before .before .index-refusal .ensures) ∙ c .before .before .before .before .before .before .before .before .before .if1 .left) _ _ _ (c .before .before .before .before .before .before .before .before .started-cells .ensures) (c .before .before .before .before .before .before .before .place-entry .ensures) (c .before .before .before .before .before .grown .given .1) _ (c .before .before .is-out-of-order .ensures) (c .before .if2 .left) (c .if3 .taken)
 
 cell-in-block-requires : tie.Need-cell-in-block-requires
 cell-in-block-requires c κs =
     let a = c .before .before .before .before .before .before .before .before .before .before .before .before .before .args in
-    let r = room (a .capacity) (a .max-blocks) (a .page-id) (a .frame-id) (a .grow) (a .header) (a .pages) (a .frames .now) (a .hash .now) (sym (c .before .before .before .before .before .before .before .before .before .before .index-refusal .ensures) ∙ c .before .before .before .before .before .before .before .before .before .if1 .left) _ _ _ (c .before .before .before .before .before .before .before .before .started-header .ensures) (c .before .before .before .before .before .before .before .place-entry .ensures) (c .before .before .before .before .before .grown .given .1) in
+    let r = room (a .capacity) (a .max-blocks) (a .page-id) (a .frame-id) (a .grow) (a .header) (a .pages) (a .frames .now) (a .hash .now) (sym (c .before .before .before .before .before .before .before .before .before .before .index-refusal .ensures) ∙ c .before .before .before .before .before .before .before .before .before .if1 .left) _ _ _ (c .before .before .before .before .before .before .before .before .started-cells .ensures) (c .before .before .before .before .before .before .before .place-entry .ensures) (c .before .before .before .before .before .grown .given .1) in
     (omega arith, r .hash-room)
 
 enum-known-cell : tie.Need-enum-known-cell
@@ -59,10 +59,10 @@ enum-told-2 : tie.Need-enum-told-2
 enum-told-2 c = search needs
 
 returns-5 : tie.Need-returns-5
-returns-5 c = full-it _ _ _ _ _ _ _ _ _ (sym (c .before .before .before .before .before .before .before .before .before .before .before .before .before .index-refusal .ensures) ∙ c .before .before .before .before .before .before .before .before .before .before .before .before .if1 .left) _ _ _ (c .before .before .before .before .before .before .before .before .before .before .before .started-header .ensures) (c .before .before .before .before .before .before .before .before .before .before .place-entry .ensures) (c .before .before .before .before .before .before .before .before .grown .given .1) _ (c .before .before .before .before .before .is-out-of-order .ensures) (c .before .before .before .before .if2 .left) (c .before .before .before .if3 .left) _ (c .before .before .cell-in-block .ensures) (c .enum-told2 .given .1)
+returns-5 c = full-it _ _ _ _ _ _ _ _ _ (sym (c .before .before .before .before .before .before .before .before .before .before .before .before .before .index-refusal .ensures) ∙ c .before .before .before .before .before .before .before .before .before .before .before .before .if1 .left) _ _ _ (c .before .before .before .before .before .before .before .before .before .before .before .started-cells .ensures) (c .before .before .before .before .before .before .before .before .before .before .place-entry .ensures) (c .before .before .before .before .before .before .before .before .grown .given .1) _ (c .before .before .before .before .before .is-out-of-order .ensures) (c .before .before .before .before .if2 .left) (c .before .before .before .if3 .left) _ (c .before .before .cell-in-block .ensures) (c .enum-told2 .given .1)
 
 returns-6 : tie.Need-returns-6
-returns-6 c = next-it _ _ _ _ _ _ _ _ _ (sym (c .before .before .before .before .before .before .before .before .before .before .before .before .before .before .index-refusal .ensures) ∙ c .before .before .before .before .before .before .before .before .before .before .before .before .before .if1 .left) _ _ _ (c .before .before .before .before .before .before .before .before .before .before .before .before .started-header .ensures) (c .before .before .before .before .before .before .before .before .before .before .before .place-entry .ensures) (c .before .before .before .before .before .before .before .before .before .grown .given .1) _ (c .before .before .before .before .before .before .is-out-of-order .ensures) (c .before .before .before .before .before .if2 .left) (c .before .before .before .before .if3 .left) _ (c .before .before .before .cell-in-block .ensures) _ (c .before .cell .given .1)
+returns-6 c = next-it _ _ _ _ _ _ _ _ _ (sym (c .before .before .before .before .before .before .before .before .before .before .before .before .before .before .index-refusal .ensures) ∙ c .before .before .before .before .before .before .before .before .before .before .before .before .before .if1 .left) _ _ _ (c .before .before .before .before .before .before .before .before .before .before .before .before .started-cells .ensures) (c .before .before .before .before .before .before .before .before .before .before .before .place-entry .ensures) (c .before .before .before .before .before .before .before .before .before .grown .given .1) _ (c .before .before .before .before .before .before .is-out-of-order .ensures) (c .before .before .before .before .before .if2 .left) (c .before .before .before .before .if3 .left) _ (c .before .before .before .cell-in-block .ensures) _ (c .before .cell .given .1)
 
 pub plan-record-spec : {M : Type 1} → statement M
 plan-record-spec =
@@ -70,7 +70,7 @@ plan-record-spec =
     (tie.spec
     index-refusal-requires
     returns
-    started-header-requires
+    started-cells-requires
     place-entry-requires
     enum-known-grown
     enum-told

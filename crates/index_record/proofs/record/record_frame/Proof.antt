@@ -9,6 +9,9 @@ plan-record-requires c κs = search needs
 enum-known-plan : tie.Need-enum-known-plan
 enum-known-plan c = search needs
 
+index-cells-requires : tie.Need-index-cells-requires
+index-cells-requires c κs = search needs
+
 same-length : tie.Need-same-length
 same-length c = search needs
 
@@ -17,8 +20,8 @@ same-length-2 c = search needs
 
 returns : tie.Need-returns
 returns c z p =
-    let a = c .before .before .before .before .before .before .before .before .before .args in
-    carry (a .capacity) (a .max-blocks) (a .page-id) (a .frame-id) (a .grow) (a .header) (a .pages .now) (a .frames .now) (a .hash .now) _ (c .before .before .before .plan-record .ensures) _ (c .before .plan .given .1) z p
+    let a = c .before .before .before .before .before .before .before .before .before .before .args in
+    rw (c .index-cells .ensures) (carry (a .capacity) (a .max-blocks) (a .page-id) (a .frame-id) (a .grow) (a .header) (a .pages .now) (a .frames .now) (a .hash .now) _ (c .before .before .before .before .plan-record .ensures) _ (c .before .before .plan .given .1) z p)
 
 enum-known-plan-2 : tie.Need-enum-known-plan-2
 enum-known-plan-2 c = search needs
@@ -100,6 +103,7 @@ record-frame-spec =
     (tie.spec
     plan-record-requires
     enum-known-plan
+    index-cells-requires
     same-length
     same-length-2
     returns
