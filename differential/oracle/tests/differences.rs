@@ -55,7 +55,7 @@ impl Port for NoDbFileReader {
 }
 
 fn with(port: &dyn Port) -> Sides<'_> {
-    Sides { port: Some(port), rust: Some(oracle::fresh) }
+    Sides { port: Some(port), process: None, rust: Some(oracle::fresh) }
 }
 
 #[test]
