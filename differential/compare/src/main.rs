@@ -1,4 +1,5 @@
 //! `./compare`: call scripts on the port and on the Rust.
+#![forbid(unsafe_code)]
 
 mod program;
 
