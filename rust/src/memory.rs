@@ -238,7 +238,7 @@ impl Memory<'_> {
     pub(crate) fn index_to_read(&self, settings: &Settings) -> IndexToRead<'_> {
         let Settings { capacity, max_blocks, .. } = *settings;
         let Memory { header, pages, frames, hash, .. } = self;
-        IndexToRead { capacity, max_blocks, header: **header, pages, frames, hash }
+        IndexToRead { capacity, max_blocks, header, pages, frames, hash }
     }
 
     /// What calls on reader slots are given.

@@ -24,7 +24,7 @@ impl Index<'_> {
     #[inline]
     pub fn to_read(&self) -> IndexToRead<'_> {
         let Index { capacity, max_blocks, header, pages, frames, hash } = self;
-        IndexToRead { capacity: *capacity, max_blocks: *max_blocks, header: **header, pages, frames, hash }
+        IndexToRead { capacity: *capacity, max_blocks: *max_blocks, header, pages, frames, hash }
     }
 }
 
@@ -35,8 +35,8 @@ pub struct IndexToRead<'a> {
     pub capacity: u32,
     /// Blocks that it may have.
     pub max_blocks: u32,
-    /// The header.
-    pub header: Header,
+    /// The header, which goes over by value.
+    pub header: &'a Header,
     /// The page of each entry.
     pub pages: &'a [u64],
     /// The frame of each entry.
@@ -170,7 +170,7 @@ pub fn find_frame(
     let (has_watermark, watermark) = (watermark.is_some().into(), watermark.unwrap_or(0));
     wal!(
         wal_find_frame,
-        [capacity, max_blocks, header],
+        [capacity, max_blocks, *header],
         [],
         [pages, frames, hash],
         [page_id, min_frame, max_frame, has_watermark, watermark]
@@ -189,7 +189,7 @@ pub fn iter_latest_frames(
     let IndexToRead { capacity, max_blocks, header, pages, frames, hash } = index;
     wal!(
         wal_iter_latest_frames,
-        [capacity, max_blocks, header],
+        [capacity, max_blocks, *header],
         [],
         [pages, frames, hash],
         [min_frame, max_frame],
