@@ -8,7 +8,8 @@
 //! use wal_coordination::{OneProcess, OwnedMemory, Process, Recorded};
 //! use wal_coordination::{Settings, SharedOwnerRecord, SharedWalOwnershipMode};
 //!
-//! let settings = Settings { capacity: 4096, max_blocks: 1, reader_slots: 4, mode: SharedWalOwnershipMode::LinuxOfd };
+//! // 4,096 entries in one block, and four reader slots.
+//! let settings = Settings::new(4096, 1, 4, SharedWalOwnershipMode::LinuxOfd);
 //! let mut owned = OwnedMemory::fresh(&settings, 1)?;
 //! let mut memory = owned.lend();
 //! let mut process = Process::new(settings, OneProcess)?;
@@ -48,21 +49,24 @@
 //!
 //! # The library
 //!
-//! The crate links the proved static library. `WAL_COORDINATION_LIB` is the absolute path of its file at build time,
-//! under any file name; without it, the file that `./build` writes in the repository is linked. A file that is
-//! missing, or is no static library, ends the build.
-#![deny(unsafe_code)]
+//! The crate is safe. `wal_coordination-sys` declares the C functions and links the proved static library.
+//! `WAL_COORDINATION_LIB` is the absolute path of its file at build time, under any file name; without it, the file that
+//! `./build` writes in the repository is linked. A file that is missing, or is no library, ends the build.
+#![forbid(unsafe_code)]
 
 mod locks;
 mod memory;
 mod process;
-mod raw;
 mod refusal;
+
+use wal_coordination_sys as sys;
 
 pub use locks::{ByteLocks, LockAnswer, LockByte, OneProcess};
 pub use memory::{
     Header, Memory, OwnedMemory, Settings, SharedOwnerRecord, SharedReadMark, SharedReaderSlot, SharedWalOwnershipMode,
     Slot, BLOCK_ENTRIES, BLOCK_HASH_CELLS, UNUSED_READER_FRAME,
 };
+#[cfg(feature = "own-cells")]
+pub use process::OwnCells;
 pub use process::{Process, Recorded};
 pub use refusal::Refusal;

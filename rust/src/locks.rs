@@ -1,6 +1,6 @@
 //! The byte locks, which the user of this crate brings.
 
-/// A byte that processes lock.
+/// A byte that processes lock. A host has a place for each: one that a later version adds is to fail to compile there.
 #[derive(Clone, Copy, Debug, PartialEq, Eq, Hash)]
 pub enum LockByte {
     /// The writer's.
@@ -11,8 +11,8 @@ pub enum LockByte {
     Reader(usize),
 }
 
-/// What a byte lock answers.
-#[derive(Clone, Copy, Debug, PartialEq, Eq)]
+/// What a byte lock answers: one of these three.
+#[derive(Clone, Copy, Debug, PartialEq, Eq, Hash)]
 #[repr(u8)]
 pub enum LockAnswer {
     /// Another process holds it.
@@ -34,6 +34,17 @@ pub trait ByteLocks {
 
     /// Gives it back.
     fn unlock(&mut self, byte: LockByte);
+}
+
+/// Lent locks: they are the host's again when the process is gone.
+impl<L: ByteLocks + ?Sized> ByteLocks for &mut L {
+    fn try_lock(&mut self, byte: LockByte) -> LockAnswer {
+        (**self).try_lock(byte)
+    }
+
+    fn unlock(&mut self, byte: LockByte) {
+        (**self).unlock(byte);
+    }
 }
 
 /// Locks for memory that only one process uses: each is granted.

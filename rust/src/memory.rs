@@ -1,7 +1,10 @@
 //! Settings, the shared memory, and what a process keeps for itself.
 
-use crate::raw;
 use crate::refusal::Refusal;
+use crate::sys::{self, Index, IndexToRead, Slots};
+use std::fmt;
+
+pub use crate::sys::{Header, SharedReadMark};
 
 /// Entries of one block of the index.
 pub const BLOCK_ENTRIES: usize = 4096;
@@ -12,8 +15,8 @@ pub const BLOCK_HASH_CELLS: usize = 8192;
 /// The frame of a reader slot without a reader.
 pub const UNUSED_READER_FRAME: u64 = u64::MAX;
 
-/// The locking primitive behind the slots and the two locks.
-#[derive(Clone, Copy, Debug, PartialEq, Eq)]
+/// The locking primitive behind the slots and the two locks. There are these two.
+#[derive(Clone, Copy, Debug, PartialEq, Eq, Hash)]
 #[repr(u32)]
 pub enum SharedWalOwnershipMode {
     /// Locks of an open file description, which the kernel frees when their process dies.
@@ -22,8 +25,10 @@ pub enum SharedWalOwnershipMode {
     ProcessScopedFcntl = 1,
 }
 
-/// The settings, the same for every call of every process on one memory.
-#[derive(Clone, Copy, Debug, PartialEq, Eq)]
+/// The settings, the same for every call of every process on one memory. [`Settings::new`] makes them; later versions
+/// may have more.
+#[derive(Clone, Copy, Debug, PartialEq, Eq, Hash)]
+#[non_exhaustive]
 pub struct Settings {
     /// Entries that the index may have: 1 to 65,536.
     pub capacity: u32,
@@ -36,14 +41,24 @@ pub struct Settings {
 }
 
 impl Settings {
-    /// Refused with [`Refusal::Settings`] where a setting is out of its limits.
+    /// These settings, within their limits or not: [`check`](Self::check) tells.
+    pub const fn new(capacity: u32, max_blocks: u32, reader_slots: usize, mode: SharedWalOwnershipMode) -> Self {
+        Settings { capacity, max_blocks, reader_slots, mode }
+    }
+
+    /// Whether each setting is within its limits.
     ///
     /// ```
     /// # use wal_coordination::{SharedWalOwnershipMode::*, *};
-    /// let settings = Settings { capacity: 64, max_blocks: 1, reader_slots: 256, mode: LinuxOfd };
+    /// let mut settings = Settings::new(64, 1, 256, LinuxOfd);
     /// assert_eq!(settings.check(), Ok(()));
-    /// assert_eq!(Settings { reader_slots: 257, ..settings }.check(), Err(Refusal::Settings));
+    /// settings.reader_slots = 257;
+    /// assert_eq!(settings.check(), Err(Refusal::Settings));
     /// ```
+    ///
+    /// # Errors
+    ///
+    /// [`Refusal::Settings`] where one is not.
     pub fn check(&self) -> Result<(), Refusal> {
         self.check_with(0)
     }
@@ -52,7 +67,7 @@ impl Settings {
     /// nothing is refused for its settings, and for its memory if they are good.
     fn check_with(&self, starting_blocks: u32) -> Result<(), Refusal> {
         let mut nothing = Memory {
-            header: &mut Header { frame_index_blocks: starting_blocks, ..Header::default() },
+            header: &mut Header::fresh(starting_blocks),
             pages: &mut [],
             frames: &mut [],
             hash: &mut [],
@@ -60,8 +75,8 @@ impl Settings {
             reader_frames: &mut [],
             reader_owners: &mut [],
         };
-        let of_index = raw::find_frame(self, &nothing, 0, 0, 0, None).refusal;
-        let of_readers = raw::has_active_db_file_reader(self, &mut nothing, &[], &[]).refusal;
+        let of_index = sys::find_frame(nothing.index_to_read(self), 0, 0, 0, None).refusal;
+        let of_readers = sys::has_active_db_file_reader(nothing.slots(self), &[], &[]).refusal;
         match [of_index, of_readers].contains(&Refusal::Settings.number()) {
             true => Err(Refusal::Settings),
             false => Ok(()),
@@ -98,27 +113,27 @@ impl SharedOwnerRecord {
     /// assert_eq!((owner.pid(), owner.instance_id(), owner.raw()), (7, 1, 7 * 4_294_967_296 + 1));
     /// ```
     pub fn new(pid: u32, instance_id: u32) -> Self {
-        SharedOwnerRecord(raw::owner_new(pid, instance_id))
+        SharedOwnerRecord(sys::owner_new(pid, instance_id))
     }
 
     /// The owner with this number.
-    pub fn from_raw(number: u64) -> Self {
+    pub const fn from_raw(number: u64) -> Self {
         SharedOwnerRecord(number)
     }
 
     /// Its number.
-    pub fn raw(self) -> u64 {
+    pub const fn raw(self) -> u64 {
         self.0
     }
 
     /// Its process id.
     pub fn pid(self) -> u32 {
-        raw::owner_pid(self.0)
+        sys::owner_pid(self.0)
     }
 
     /// Its instance id.
     pub fn instance_id(self) -> u32 {
-        raw::owner_instance_id(self.0)
+        sys::owner_instance_id(self.0)
     }
 }
 
@@ -128,18 +143,20 @@ pub struct Slot(pub(crate) usize);
 
 impl Slot {
     /// The slot with this number; calls refuse one that is not there.
-    pub fn new(number: usize) -> Self {
+    pub const fn new(number: usize) -> Self {
         Slot(number)
     }
 
     /// Its number.
-    pub fn number(self) -> usize {
+    pub const fn number(self) -> usize {
         self.0
     }
 }
 
-/// A registered reader: its slot, the owner in it, and the mark up to which it looks.
-#[derive(Clone, Copy, Debug, PartialEq, Eq)]
+/// A registered reader: its slot, the owner in it, and the mark up to which it looks. Registrations answer it;
+/// [`SharedReaderSlot::new`] makes one that is known from elsewhere. Later versions may have more.
+#[derive(Clone, Copy, Debug, PartialEq, Eq, Hash)]
+#[non_exhaustive]
 pub struct SharedReaderSlot {
     /// Its slot.
     pub slot: Slot,
@@ -149,40 +166,18 @@ pub struct SharedReaderSlot {
     pub max_frame: u64,
 }
 
-/// The header of the shared memory.
-#[derive(Clone, Copy, Debug, Default, PartialEq, Eq)]
-#[repr(C)]
-#[allow(missing_docs)]
-pub struct Header {
-    pub frame_index_blocks: u32,
-    pub frame_index_len: u32,
-    pub frame_index_overflowed: u32,
-    /// The published frame.
-    pub max_frame: u64,
-    pub nbackfills: u64,
-    pub transaction_count: u64,
-    pub visibility_generation: u64,
-    pub checkpoint_seq: u32,
-    pub checkpoint_epoch: u32,
-    pub checksum_1: u32,
-    pub checksum_2: u32,
-    pub writer_owner: u64,
-    pub checkpoint_owner: u64,
-}
-
-/// One record of a process's registry of shared marks. With 0 holders it is empty.
-#[derive(Clone, Copy, Debug, Default, PartialEq, Eq)]
-#[repr(C)]
-#[allow(missing_docs)]
-pub struct SharedReadMark {
-    pub mark: u64,
-    pub slot: u32,
-    pub owner: u64,
-    pub holders: u32,
+impl SharedReaderSlot {
+    /// A reader of these; calls refuse one that is not registered so.
+    pub const fn new(slot: Slot, owner: SharedOwnerRecord, max_frame: u64) -> Self {
+        SharedReaderSlot { slot, owner, max_frame }
+    }
 }
 
 /// The shared memory, lent part by part. Each part is at least as long as the settings ask, or calls are refused.
 /// While it is lent nothing else reads or writes it: processes, and threads of one process, make one call at a time.
+///
+/// A host names every part. A part that a later version adds is the host's to lend, so code that does not is to fail to
+/// compile.
 pub struct Memory<'a> {
     /// The header.
     pub header: &'a mut Header,
@@ -204,8 +199,10 @@ impl Memory<'_> {
     /// Makes it fresh, with so many starting blocks in use. Cells of pages and frames stay as they are, and so do
     /// cells beyond those that the settings ask for.
     ///
-    /// Refused, with nothing changed, where a setting is out of its limits or there are more starting blocks than the
-    /// maximum ([`Refusal::Settings`]), and where a part is too short ([`Refusal::ShortMemory`]).
+    /// # Errors
+    ///
+    /// With nothing changed: [`Refusal::Settings`] where a setting is out of its limits or there are more starting
+    /// blocks than the maximum, [`Refusal::ShortMemory`] where a part is too short.
     pub fn make_fresh(&mut self, settings: &Settings, starting_blocks: u32) -> Result<(), Refusal> {
         settings.check_with(starting_blocks)?;
         let (entries, hash_cells) = (settings.entry_cells(), settings.hash_cells());
@@ -219,7 +216,7 @@ impl Memory<'_> {
         if short {
             return Err(Refusal::ShortMemory);
         }
-        *self.header = Header { frame_index_blocks: starting_blocks, ..Header::default() };
+        *self.header = Header::fresh(starting_blocks);
         self.hash[..hash_cells].fill(0);
         self.reader_frames[..slots].fill(UNUSED_READER_FRAME);
         self.reader_owners[..slots].fill(0);
@@ -230,12 +227,53 @@ impl Memory<'_> {
         Ok(())
     }
 
+    /// What calls on the index are given.
+    pub(crate) fn index(&mut self, settings: &Settings) -> Index<'_> {
+        let Settings { capacity, max_blocks, .. } = *settings;
+        let Memory { header, pages, frames, hash, .. } = self;
+        Index { capacity, max_blocks, header, pages, frames, hash }
+    }
+
+    /// The same, to read.
+    pub(crate) fn index_to_read(&self, settings: &Settings) -> IndexToRead<'_> {
+        let Settings { capacity, max_blocks, .. } = *settings;
+        let Memory { header, pages, frames, hash, .. } = self;
+        IndexToRead { capacity, max_blocks, header, pages, frames, hash }
+    }
+
+    /// What calls on reader slots are given.
+    pub(crate) fn slots(&mut self, settings: &Settings) -> Slots<'_> {
+        let Settings { reader_slots: n, mode, .. } = *settings;
+        let Memory { bitmap, reader_frames, reader_owners, .. } = self;
+        Slots { n, mode: mode as u32, bitmap, reader_frames, reader_owners }
+    }
+
     pub(crate) fn slot_is_free(&self, slot: usize) -> bool {
         self.bitmap.get(slot / 64).is_some_and(|word| word >> (slot % 64) & 1 == 1)
     }
 }
 
+/// The header, and how many cells there are of each part.
+impl fmt::Debug for Memory<'_> {
+    fn fmt(&self, f: &mut fmt::Formatter<'_>) -> fmt::Result {
+        let Memory { header, pages, frames, hash, bitmap, reader_frames, reader_owners } = self;
+        let cells = [pages.len(), frames.len(), hash.len(), bitmap.len(), reader_frames.len(), reader_owners.len()];
+        counted(f, "Memory", header, cells)
+    }
+}
+
+/// A memory's header, and how many cells its parts have: a part itself is too long to read.
+fn counted(f: &mut fmt::Formatter<'_>, name: &str, header: &Header, cells: [usize; 6]) -> fmt::Result {
+    let mut told = f.debug_struct(name);
+    told.field("header", header);
+    for (part, cells) in ["pages", "frames", "hash", "bitmap", "reader_frames", "reader_owners"].iter().zip(&cells) {
+        told.field(part, cells);
+    }
+    told.finish()
+}
+
 /// Memory on the heap, for one process alone, for tests and examples.
+#[derive(Clone)]
 pub struct OwnedMemory {
     header: Header,
     pages: Vec<u64>,
@@ -247,15 +285,18 @@ pub struct OwnedMemory {
 }
 
 impl OwnedMemory {
-    /// Fresh memory, as long as the settings ask. Refused with [`Refusal::Settings`] where a setting is out of its
-    /// limits or there are more starting blocks than the maximum.
+    /// Fresh memory, as long as the settings ask.
     ///
     /// ```
     /// # use wal_coordination::{SharedWalOwnershipMode::*, *};
-    /// let settings = Settings { capacity: 64, max_blocks: 1, reader_slots: 1, mode: LinuxOfd };
+    /// let settings = Settings::new(64, 1, 1, LinuxOfd);
     /// assert!(OwnedMemory::fresh(&settings, 1).is_ok());
     /// assert_eq!(OwnedMemory::fresh(&settings, 2).err(), Some(Refusal::Settings));
     /// ```
+    ///
+    /// # Errors
+    ///
+    /// [`Refusal::Settings`] where a setting is out of its limits or there are more starting blocks than the maximum.
     pub fn fresh(settings: &Settings, starting_blocks: u32) -> Result<Self, Refusal> {
         // Before so many cells are asked for; the starting blocks are looked at when the memory is made fresh.
         settings.check()?;
@@ -283,5 +324,14 @@ impl OwnedMemory {
             reader_frames: &mut self.reader_frames,
             reader_owners: &mut self.reader_owners,
         }
+    }
+}
+
+/// The header, and how many cells there are of each part.
+impl fmt::Debug for OwnedMemory {
+    fn fmt(&self, f: &mut fmt::Formatter<'_>) -> fmt::Result {
+        let OwnedMemory { header, pages, frames, hash, bitmap, reader_frames, reader_owners } = self;
+        let cells = [pages.len(), frames.len(), hash.len(), bitmap.len(), reader_frames.len(), reader_owners.len()];
+        counted(f, "OwnedMemory", header, cells)
     }
 }

@@ -5,11 +5,12 @@ use crate::memory::{
     Memory, Settings, SharedOwnerRecord, SharedReadMark, SharedReaderSlot, SharedWalOwnershipMode, Slot,
     UNUSED_READER_FRAME,
 };
-use crate::raw::{self, Lock, Own};
 use crate::refusal::Refusal;
+use crate::sys;
+use std::fmt;
 
-/// What became of a recorded frame.
-#[derive(Clone, Copy, Debug, PartialEq, Eq)]
+/// What became of a recorded frame: one of these two.
+#[derive(Clone, Copy, Debug, PartialEq, Eq, Hash)]
 pub enum Recorded {
     /// It is in the index.
     Stored,
@@ -22,49 +23,65 @@ pub enum Recorded {
 /// process on a memory go through one of these; threads of a process share it behind a mutex.
 pub struct Process<L> {
     settings: Settings,
-    local_readers: Vec<u64>,
-    local_writer: u64,
-    local_checkpoint: u64,
-    registry: Vec<SharedReadMark>,
+    own: OwnCells,
     locks: L,
+}
+
+/// What a process keeps for itself. With the feature `own-cells` it can be looked at and changed, for tests.
+#[derive(Clone, Debug, PartialEq, Eq)]
+pub struct OwnCells {
+    /// The owner in each reader slot that it holds, else 0.
+    pub local_readers: Vec<u64>,
+    /// The owner for which it holds the writer lock, else 0.
+    pub local_writer: u64,
+    /// The owner for which it holds the checkpoint lock, else 0.
+    pub local_checkpoint: u64,
+    /// Its registry of shared marks.
+    pub registry: Vec<SharedReadMark>,
+}
+
+/// Which of the two locks.
+#[derive(Clone, Copy)]
+enum Lock {
+    Writer,
+    Checkpoint,
 }
 
 /// Nothing, or the refusal of a number.
 fn accepted(refusal: u32) -> Result<(), Refusal> {
     match refusal {
         0 => Ok(()),
-        number => Err(Refusal::from_number(number).expect("a refusal has a number from 1 to 15")),
+        number => Err(Refusal::from_number(number).expect("the library refuses with one of the refusals")),
     }
 }
 
-fn reader_slot(reply: raw::ReaderReply) -> Result<Option<SharedReaderSlot>, Refusal> {
+fn reader_slot(reply: sys::ReaderReply) -> Result<Option<SharedReaderSlot>, Refusal> {
     accepted(reply.refusal)?;
-    Ok((reply.taken == 1).then(|| SharedReaderSlot {
-        slot: Slot(reply.slot as usize),
-        owner: SharedOwnerRecord(reply.owner),
-        max_frame: reply.mark,
-    }))
+    let reader = SharedReaderSlot::new(Slot(reply.slot as usize), SharedOwnerRecord(reply.owner), reply.mark);
+    Ok((reply.taken == 1).then_some(reader))
 }
 
 impl<L: ByteLocks> Process<L> {
-    /// A process that holds nothing. The settings are those of all processes on the memory. Refused with
-    /// [`Refusal::Settings`] where one is out of its limits.
+    /// A process that holds nothing. The settings are those of all processes on the memory.
     ///
     /// ```
     /// # use wal_coordination::{SharedWalOwnershipMode::*, *};
-    /// let settings = Settings { capacity: 64, max_blocks: 17, reader_slots: 1, mode: LinuxOfd };
+    /// let settings = Settings::new(64, 17, 1, LinuxOfd); // at most 16 blocks
     /// assert_eq!(Process::new(settings, OneProcess).err(), Some(Refusal::Settings));
     /// ```
+    ///
+    /// # Errors
+    ///
+    /// [`Refusal::Settings`] where a setting is out of its limits.
     pub fn new(settings: Settings, locks: L) -> Result<Self, Refusal> {
         settings.check()?;
-        Ok(Process {
-            settings,
+        let own = OwnCells {
             local_readers: vec![0; settings.reader_slots],
             local_writer: 0,
             local_checkpoint: 0,
             registry: vec![SharedReadMark::default(); settings.reader_slots],
-            locks,
-        })
+        };
+        Ok(Process { settings, own, locks })
     }
 
     /// Its settings.
@@ -74,7 +91,13 @@ impl<L: ByteLocks> Process<L> {
 
     /// Its registry: one record for each mark that connections of this process share, those with 0 holders empty.
     pub fn registry(&self) -> &[SharedReadMark] {
-        &self.registry
+        &self.own.registry
+    }
+
+    /// What it keeps for itself. A host has no use for this: what it changes here, calls take as it stands.
+    #[cfg(feature = "own-cells")]
+    pub fn own_cells(&mut self) -> &mut OwnCells {
+        &mut self.own
     }
 
     /// Appends a frame of a page to the index. `grow` is the file's answer to a growth by one block, if one is needed.
@@ -87,7 +110,7 @@ impl<L: ByteLocks> Process<L> {
     ///
     /// ```
     /// # use wal_coordination::{SharedWalOwnershipMode::*, *};
-    /// # let settings = Settings { capacity: 1, max_blocks: 1, reader_slots: 1, mode: LinuxOfd };
+    /// # let settings = Settings::new(1, 1, 1, LinuxOfd);
     /// # let mut owned = OwnedMemory::fresh(&settings, 1)?;
     /// # let mut memory = owned.lend();
     /// let process = Process::new(settings, OneProcess)?; // a capacity of 1
@@ -96,6 +119,11 @@ impl<L: ByteLocks> Process<L> {
     /// assert_eq!(memory.header.frame_index_overflowed, 1);
     /// # Ok::<(), Refusal>(())
     /// ```
+    ///
+    /// # Errors
+    ///
+    /// [`Refusal::FrameOrder`] where the frame is not above the last one. In damaged memory or memory of other settings,
+    /// [`Refusal::Settings`], [`Refusal::ShortMemory`] and [`Refusal::HashFull`].
     pub fn record_frame(
         &self,
         memory: &mut Memory<'_>,
@@ -103,14 +131,18 @@ impl<L: ByteLocks> Process<L> {
         frame_id: u64,
         grow: bool,
     ) -> Result<Recorded, Refusal> {
-        let reply = raw::record_frame(&self.settings, memory, page_id, frame_id, grow);
+        let reply = sys::record_frame(memory.index(&self.settings), page_id, frame_id, grow.into());
         accepted(reply.refusal)?;
         Ok(if reply.answer == 1 { Recorded::Stored } else { Recorded::Dropped })
     }
 
     /// Drops the entries from the end whose frame is above `max_frame`. Answers how many are kept.
+    ///
+    /// # Errors
+    ///
+    /// In damaged memory or memory of other settings, [`Refusal::Settings`] and [`Refusal::ShortMemory`].
     pub fn rollback_frames(&self, memory: &mut Memory<'_>, max_frame: u64) -> Result<u32, Refusal> {
-        let reply = raw::rollback_frames(&self.settings, memory, max_frame);
+        let reply = sys::rollback_frames(memory.index(&self.settings), max_frame);
         accepted(reply.refusal)?;
         Ok(reply.answer)
     }
@@ -120,7 +152,7 @@ impl<L: ByteLocks> Process<L> {
     ///
     /// ```
     /// # use wal_coordination::{SharedWalOwnershipMode::*, *};
-    /// # let settings = Settings { capacity: 64, max_blocks: 1, reader_slots: 1, mode: LinuxOfd };
+    /// # let settings = Settings::new(64, 1, 1, LinuxOfd);
     /// # let mut owned = OwnedMemory::fresh(&settings, 1)?;
     /// # let mut memory = owned.lend();
     /// # let process = Process::new(settings, OneProcess)?;
@@ -132,6 +164,10 @@ impl<L: ByteLocks> Process<L> {
     /// assert_eq!(process.find_frame(&memory, 7, 2, 3, Some(2)), Ok(Some(1)));
     /// # Ok::<(), Refusal>(())
     /// ```
+    ///
+    /// # Errors
+    ///
+    /// In damaged memory or memory of other settings, [`Refusal::Settings`] and [`Refusal::ShortMemory`].
     pub fn find_frame(
         &self,
         memory: &Memory<'_>,
@@ -140,7 +176,8 @@ impl<L: ByteLocks> Process<L> {
         max_frame: u64,
         frame_watermark: Option<u64>,
     ) -> Result<Option<u64>, Refusal> {
-        let reply = raw::find_frame(&self.settings, memory, page_id, min_frame, max_frame, frame_watermark);
+        let index = memory.index_to_read(&self.settings);
+        let reply = sys::find_frame(index, page_id, min_frame, max_frame, frame_watermark);
         accepted(reply.refusal)?;
         Ok((reply.found == 1).then_some(reply.frame))
     }
@@ -150,7 +187,7 @@ impl<L: ByteLocks> Process<L> {
     ///
     /// ```
     /// # use wal_coordination::{SharedWalOwnershipMode::*, *};
-    /// # let settings = Settings { capacity: 64, max_blocks: 1, reader_slots: 1, mode: LinuxOfd };
+    /// # let settings = Settings::new(64, 1, 1, LinuxOfd);
     /// # let mut owned = OwnedMemory::fresh(&settings, 1)?;
     /// # let mut memory = owned.lend();
     /// # let process = Process::new(settings, OneProcess)?;
@@ -160,6 +197,10 @@ impl<L: ByteLocks> Process<L> {
     /// assert_eq!(process.iter_latest_frames(&memory, 1, 3), Ok(vec![(7, 2), (8199, 3)]));
     /// # Ok::<(), Refusal>(())
     /// ```
+    ///
+    /// # Errors
+    ///
+    /// In damaged memory or memory of other settings, [`Refusal::Settings`] and [`Refusal::ShortMemory`].
     pub fn iter_latest_frames(
         &self,
         memory: &Memory<'_>,
@@ -175,6 +216,11 @@ impl<L: ByteLocks> Process<L> {
 
     /// The same into cells of the caller's, without allocation. Answers how many pairs; the cells after them are as
     /// they were.
+    ///
+    /// # Errors
+    ///
+    /// [`Refusal::ShortList`] where there are more pairs than cells of one of the two; and as
+    /// [`iter_latest_frames`](Self::iter_latest_frames).
     pub fn iter_latest_frames_into(
         &self,
         memory: &Memory<'_>,
@@ -183,7 +229,8 @@ impl<L: ByteLocks> Process<L> {
         pages: &mut [u64],
         frames: &mut [u64],
     ) -> Result<usize, Refusal> {
-        let reply = raw::iter_latest_frames(&self.settings, memory, min_frame, max_frame, pages, frames);
+        let index = memory.index_to_read(&self.settings);
+        let reply = sys::iter_latest_frames(index, min_frame, max_frame, pages, frames);
         accepted(reply.refusal)?;
         Ok(reply.count as usize)
     }
@@ -196,35 +243,48 @@ impl<L: ByteLocks> Process<L> {
         checksums: (u32, u32),
         transaction_count: u64,
     ) {
-        raw::publish_commit(memory.header, max_frame, checksums, transaction_count);
+        sys::publish_commit(memory.header, max_frame, checksums.0, checksums.1, transaction_count);
     }
 
     /// Publishes how many frames are copied to the database file: after they are, under the checkpoint lock.
     pub fn publish_backfill(&self, memory: &mut Memory<'_>, nbackfills: u64) {
-        raw::publish_backfill(memory.header, nbackfills);
+        sys::publish_backfill(memory.header, nbackfills);
     }
 
     /// Raises the checkpoint number and answers the new one.
     pub fn bump_checkpoint_seq(&self, memory: &mut Memory<'_>) -> u32 {
-        raw::bump_checkpoint_seq(memory.header)
+        sys::bump_checkpoint_seq(memory.header)
     }
 
     /// Raises the checkpoint epoch and answers the old one.
     pub fn bump_checkpoint_epoch(&self, memory: &mut Memory<'_>) -> u32 {
-        raw::bump_checkpoint_epoch(memory.header)
+        sys::bump_checkpoint_epoch(memory.header)
     }
 
     /// Takes the writer lock. `false` if it is held, here or by another process, or could not be asked.
+    ///
+    /// # Errors
+    ///
+    /// [`Refusal::NoOwner`] for owner 0.
     pub fn try_acquire_writer(&mut self, memory: &mut Memory<'_>, owner: SharedOwnerRecord) -> Result<bool, Refusal> {
         self.try_acquire(Lock::Writer, memory, owner)
     }
 
     /// Releases the writer lock.
+    ///
+    /// # Errors
+    ///
+    /// [`Refusal::NotHeld`] where this process does not hold it, [`Refusal::OtherOwner`] where it holds it for another
+    /// owner (in [`ProcessScopedFcntl`](SharedWalOwnershipMode::ProcessScopedFcntl)), [`Refusal::NoOwner`] for owner 0.
     pub fn release_writer(&mut self, memory: &mut Memory<'_>, owner: SharedOwnerRecord) -> Result<(), Refusal> {
         self.release(Lock::Writer, memory, owner)
     }
 
     /// Takes the checkpoint lock. `false` if it is held, here or by another process, or could not be asked.
+    ///
+    /// # Errors
+    ///
+    /// [`Refusal::NoOwner`] for owner 0.
     pub fn try_acquire_checkpoint(
         &mut self,
         memory: &mut Memory<'_>,
@@ -234,21 +294,28 @@ impl<L: ByteLocks> Process<L> {
     }
 
     /// Releases the checkpoint lock.
+    ///
+    /// # Errors
+    ///
+    /// As [`release_writer`](Self::release_writer).
     pub fn release_checkpoint(&mut self, memory: &mut Memory<'_>, owner: SharedOwnerRecord) -> Result<(), Refusal> {
         self.release(Lock::Checkpoint, memory, owner)
     }
 
     fn cell(&mut self, lock: Lock) -> (&mut u64, LockByte) {
         match lock {
-            Lock::Writer => (&mut self.local_writer, LockByte::Writer),
-            Lock::Checkpoint => (&mut self.local_checkpoint, LockByte::Checkpoint),
+            Lock::Writer => (&mut self.own.local_writer, LockByte::Writer),
+            Lock::Checkpoint => (&mut self.own.local_checkpoint, LockByte::Checkpoint),
         }
     }
 
     fn try_acquire(&mut self, lock: Lock, memory: &mut Memory<'_>, owner: SharedOwnerRecord) -> Result<bool, Refusal> {
         let (&mut held, byte) = self.cell(lock);
         let card = if held == 0 { self.locks.try_lock(byte) } else { LockAnswer::Busy };
-        let reply = raw::try_acquire(lock, memory.header, held, owner.0, card as u8);
+        let reply = match lock {
+            Lock::Writer => sys::try_acquire_writer(memory.header, held, owner.0, card as u8),
+            Lock::Checkpoint => sys::try_acquire_checkpoint(memory.header, held, owner.0, card as u8),
+        };
         *self.cell(lock).0 = reply.local_owner;
         if card == LockAnswer::Granted && reply.answer == 0 {
             self.locks.unlock(byte);
@@ -258,8 +325,12 @@ impl<L: ByteLocks> Process<L> {
     }
 
     fn release(&mut self, lock: Lock, memory: &mut Memory<'_>, owner: SharedOwnerRecord) -> Result<(), Refusal> {
+        let mode = self.settings.mode as u32;
         let (&mut held, byte) = self.cell(lock);
-        let reply = raw::release(lock, &self.settings, memory.header, held, owner.0);
+        let reply = match lock {
+            Lock::Writer => sys::release_writer(mode, memory.header, held, owner.0),
+            Lock::Checkpoint => sys::release_checkpoint(mode, memory.header, held, owner.0),
+        };
         *self.cell(lock).0 = reply.local_owner;
         accepted(reply.refusal)?;
         self.locks.unlock(byte);
@@ -270,7 +341,7 @@ impl<L: ByteLocks> Process<L> {
     ///
     /// ```
     /// # use wal_coordination::{SharedWalOwnershipMode::*, *};
-    /// # let settings = Settings { capacity: 64, max_blocks: 1, reader_slots: 1, mode: LinuxOfd };
+    /// # let settings = Settings::new(64, 1, 1, LinuxOfd);
     /// # let mut owned = OwnedMemory::fresh(&settings, 1)?;
     /// # let mut memory = owned.lend();
     /// # let mut process = Process::new(settings, OneProcess)?;
@@ -282,6 +353,11 @@ impl<L: ByteLocks> Process<L> {
     /// assert_eq!(process.unregister_reader(&mut memory, reader), Err(Refusal::NotHeld));
     /// # Ok::<(), Refusal>(())
     /// ```
+    ///
+    /// # Errors
+    ///
+    /// [`Refusal::NoOwner`] for owner 0, [`Refusal::UnusedMark`] for the mark of an unused slot; in memory of other
+    /// settings, [`Refusal::ShortMemory`].
     pub fn register_reader(
         &mut self,
         memory: &mut Memory<'_>,
@@ -289,34 +365,55 @@ impl<L: ByteLocks> Process<L> {
         max_frame: u64,
     ) -> Result<Option<SharedReaderSlot>, Refusal> {
         let card = self.registration_card(memory);
-        let (settings, own) = (self.settings, self.own());
-        let reply = reader_slot(raw::register_reader(&settings, memory, own, &card, owner.0, max_frame));
+        let slots = memory.slots(&self.settings);
+        let reply = sys::register_reader(slots, &mut self.own.local_readers, &card, owner.0, max_frame);
+        let reply = reader_slot(reply);
         self.unlock_all_but(&card, reply.ok().flatten());
         reply
     }
 
     /// Moves a reader to another mark.
+    ///
+    /// # Errors
+    ///
+    /// [`Refusal::SlotNumber`], [`Refusal::OtherOwner`] and [`Refusal::NoOwner`] where the slot has no such reader,
+    /// [`Refusal::UnusedMark`] for the mark of an unused slot, [`Refusal::SharedSlot`] for a shared one; in memory of
+    /// other settings, [`Refusal::ShortMemory`].
     pub fn update_reader(
         &mut self,
         memory: &mut Memory<'_>,
         reader: SharedReaderSlot,
         max_frame: u64,
     ) -> Result<SharedReaderSlot, Refusal> {
-        let (settings, own) = (self.settings, self.own());
-        let reply = raw::update_reader(&settings, memory, own, reader.slot.0, reader.owner.0, max_frame);
+        let SharedReaderSlot { slot, owner, .. } = reader;
+        let slots = memory.slots(&self.settings);
+        let reply = sys::update_reader(slots, &self.own.registry, slot.0, owner.0, max_frame);
         Ok(reader_slot(reply)?.expect("an accepted move answers its slot"))
     }
 
     /// Releases a reader's slot.
+    ///
+    /// # Errors
+    ///
+    /// [`Refusal::SlotNumber`], [`Refusal::NotHeld`], [`Refusal::OtherOwner`] and [`Refusal::NoOwner`] where this process
+    /// has no such reader there, [`Refusal::SharedSlot`] for a shared one; in memory of other settings,
+    /// [`Refusal::ShortMemory`].
     pub fn unregister_reader(&mut self, memory: &mut Memory<'_>, reader: SharedReaderSlot) -> Result<(), Refusal> {
-        let (settings, own) = (self.settings, self.own());
-        accepted(raw::unregister_reader(&settings, memory, own, reader.slot.0, reader.owner.0))?;
-        self.locks.unlock(LockByte::Reader(reader.slot.0));
+        let SharedReaderSlot { slot, owner, .. } = reader;
+        let OwnCells { local_readers, registry, .. } = &mut self.own;
+        let slots = memory.slots(&self.settings);
+        accepted(sys::unregister_reader(slots, local_readers, registry, slot.0, owner.0))?;
+        self.locks.unlock(LockByte::Reader(slot.0));
         Ok(())
     }
 
     /// Takes a reader slot at a mark, or joins the connections of this process that share the mark already: then the
     /// answer has the first holder's slot and owner.
+    ///
+    /// # Errors
+    ///
+    /// [`Refusal::NoOwner`] for owner 0, [`Refusal::UnusedMark`] for the mark of an unused slot, [`Refusal::Registry`]
+    /// where the mark has 65,535 holders; in memory of other settings, [`Refusal::ShortMemory`].
     pub fn register_reader_for_snapshot(
         &mut self,
         memory: &mut Memory<'_>,
@@ -324,8 +421,9 @@ impl<L: ByteLocks> Process<L> {
         max_frame: u64,
     ) -> Result<Option<SharedReaderSlot>, Refusal> {
         let card = self.shared_card(memory, max_frame);
-        let (settings, own) = (self.settings, self.own());
-        let reply = raw::register_reader_for_snapshot(&settings, memory, own, &card, owner.0, max_frame);
+        let OwnCells { local_readers, registry, .. } = &mut self.own;
+        let slots = memory.slots(&self.settings);
+        let reply = sys::register_reader_for_snapshot(slots, local_readers, registry, &card, owner.0, max_frame);
         let reply = reader_slot(reply);
         self.unlock_all_but(&card, reply.ok().flatten());
         reply
@@ -336,28 +434,42 @@ impl<L: ByteLocks> Process<L> {
     /// Such a reader needs all published frames to be copied: it is registered in a turn in which `nbackfills` of the
     /// header equals `max_frame`. While one is live no process copies a further frame: see
     /// [`copy_back_limit`](Self::copy_back_limit).
+    ///
+    /// # Errors
+    ///
+    /// As [`register_reader_for_snapshot`](Self::register_reader_for_snapshot), but for the mark.
     pub fn register_db_file_reader(
         &mut self,
         memory: &mut Memory<'_>,
         owner: SharedOwnerRecord,
     ) -> Result<Option<SharedReaderSlot>, Refusal> {
         let card = self.shared_card(memory, 0);
-        let (settings, own) = (self.settings, self.own());
-        let reply = reader_slot(raw::register_db_file_reader(&settings, memory, own, &card, owner.0));
+        let OwnCells { local_readers, registry, .. } = &mut self.own;
+        let slots = memory.slots(&self.settings);
+        let reply = reader_slot(sys::register_db_file_reader(slots, local_readers, registry, &card, owner.0));
         self.unlock_all_but(&card, reply.ok().flatten());
         reply
     }
 
     /// Releases a shared mark. The last holder's release empties the slot.
+    ///
+    /// # Errors
+    ///
+    /// [`Refusal::NoSuchMark`] where the mark is not registered with this slot and owner; [`Refusal::SlotNumber`],
+    /// [`Refusal::NotHeld`], [`Refusal::OtherOwner`], [`Refusal::NoOwner`] and [`Refusal::UnusedMark`] where there can be
+    /// no such mark; in memory of other settings, [`Refusal::ShortMemory`].
     pub fn unregister_reader_for_snapshot(
         &mut self,
         memory: &mut Memory<'_>,
         reader: SharedReaderSlot,
     ) -> Result<(), Refusal> {
-        let (settings, own) = (self.settings, self.own());
         let SharedReaderSlot { slot, owner, max_frame } = reader;
-        accepted(raw::unregister_reader_for_snapshot(&settings, memory, own, max_frame, slot.0, owner.0))?;
-        if !self.holds(slot.0) {
+        let held = self.holds(slot.0);
+        let OwnCells { local_readers, registry, .. } = &mut self.own;
+        let slots = memory.slots(&self.settings);
+        let reply = sys::unregister_reader_for_snapshot(slots, local_readers, registry, max_frame, slot.0, owner.0);
+        accepted(reply)?;
+        if held && !self.holds(slot.0) {
             self.locks.unlock(LockByte::Reader(slot.0));
         }
         Ok(())
@@ -365,9 +477,14 @@ impl<L: ByteLocks> Process<L> {
 
     /// The floor: the least mark above 0 that is still held, in any process. Slots of dead readers are reclaimed.
     /// Readers of the database file, at mark 0, are left out.
+    ///
+    /// # Errors
+    ///
+    /// [`Refusal::Probe`] where a reader's lock could not be asked (in
+    /// [`LinuxOfd`](SharedWalOwnershipMode::LinuxOfd)); in memory of other settings, [`Refusal::ShortMemory`].
     pub fn min_active_reader_frame(&mut self, memory: &mut Memory<'_>) -> Result<Option<u64>, Refusal> {
         let card = self.probe_card(memory);
-        let reply = raw::min_active_reader_frame(&self.settings, memory, &self.local_readers, &card);
+        let reply = sys::min_active_reader_frame(memory.slots(&self.settings), &self.own.local_readers, &card);
         self.unlock_all_but(&card, None);
         accepted(reply.refusal)?;
         Ok((reply.found == 1).then_some(reply.mark))
@@ -384,7 +501,7 @@ impl<L: ByteLocks> Process<L> {
     ///
     /// ```
     /// # use wal_coordination::{SharedWalOwnershipMode::*, *};
-    /// # let settings = Settings { capacity: 64, max_blocks: 1, reader_slots: 2, mode: LinuxOfd };
+    /// # let settings = Settings::new(64, 1, 2, LinuxOfd);
     /// # let mut owned = OwnedMemory::fresh(&settings, 1)?;
     /// # let mut memory = owned.lend();
     /// # let mut process = Process::new(settings, OneProcess)?;
@@ -417,9 +534,15 @@ impl<L: ByteLocks> Process<L> {
     /// process.release_checkpoint(&mut memory, owner)?;
     /// # Ok::<(), Refusal>(())
     /// ```
+    ///
+    /// # Errors
+    ///
+    /// As [`min_active_reader_frame`](Self::min_active_reader_frame).
     pub fn copy_back_limit(&mut self, memory: &mut Memory<'_>) -> Result<u64, Refusal> {
         let card = self.probe_card(memory);
-        let reply = raw::copy_back_limit(&self.settings, memory, &self.local_readers, &card);
+        let published = memory.header.max_frame;
+        let slots = memory.slots(&self.settings);
+        let reply = sys::copy_back_limit(slots, published, &self.own.local_readers, &card);
         self.unlock_all_but(&card, None);
         accepted(reply.refusal)?;
         Ok(reply.limit)
@@ -427,20 +550,20 @@ impl<L: ByteLocks> Process<L> {
 
     /// Whether some live reader, in any process, reads only the database file. Slots of dead readers that it meets are
     /// reclaimed. A host asks this before it copies frames back: see [`copy_back_limit`](Self::copy_back_limit).
+    ///
+    /// # Errors
+    ///
+    /// As [`min_active_reader_frame`](Self::min_active_reader_frame).
     pub fn has_active_db_file_reader(&mut self, memory: &mut Memory<'_>) -> Result<bool, Refusal> {
         let card = self.probe_card(memory);
-        let reply = raw::has_active_db_file_reader(&self.settings, memory, &self.local_readers, &card);
+        let reply = sys::has_active_db_file_reader(memory.slots(&self.settings), &self.own.local_readers, &card);
         self.unlock_all_but(&card, None);
         accepted(reply.refusal)?;
         Ok(reply.active == 1)
     }
 
-    fn own(&mut self) -> Own<'_> {
-        Own { local_readers: &mut self.local_readers, registry: &mut self.registry }
-    }
-
     fn holds(&self, slot: usize) -> bool {
-        self.local_readers.get(slot).is_some_and(|&owner| owner != 0)
+        self.own.local_readers.get(slot).is_some_and(|&owner| owner != 0)
     }
 
     /// The lock answers of a registration. Free slots are asked in order until one is granted, which is the one that
@@ -463,7 +586,7 @@ impl<L: ByteLocks> Process<L> {
 
     /// The same for a shared registration, which asks no lock where the mark is shared already.
     fn shared_card(&mut self, memory: &Memory<'_>, mark: u64) -> Vec<u8> {
-        if self.registry.iter().any(|record| record.holders != 0 && record.mark == mark) {
+        if self.own.registry.iter().any(|record| record.holders != 0 && record.mark == mark) {
             return vec![LockAnswer::Busy as u8; self.settings.reader_slots];
         }
         self.registration_card(memory)
@@ -476,7 +599,8 @@ impl<L: ByteLocks> Process<L> {
         for (slot, byte) in card.iter_mut().enumerate() {
             let unused = memory.reader_frames.get(slot).is_none_or(|&frame| frame == UNUSED_READER_FRAME);
             let ownerless = memory.reader_owners.get(slot).is_none_or(|&owner| owner == 0);
-            if !unused && !(fcntl && ownerless) && self.local_readers[slot] == 0 {
+            let skipped = unused || fcntl && ownerless;
+            if !skipped && self.own.local_readers[slot] == 0 {
                 *byte = self.locks.try_lock(LockByte::Reader(slot)) as u8;
             }
         }
@@ -490,5 +614,13 @@ impl<L: ByteLocks> Process<L> {
                 self.locks.unlock(LockByte::Reader(slot));
             }
         }
+    }
+}
+
+/// Its settings and its own cells.
+impl<L> fmt::Debug for Process<L> {
+    fn fmt(&self, f: &mut fmt::Formatter<'_>) -> fmt::Result {
+        let Process { settings, own, .. } = self;
+        f.debug_struct("Process").field("settings", settings).field("own", own).finish_non_exhaustive()
     }
 }

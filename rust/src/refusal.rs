@@ -4,16 +4,18 @@ use std::fmt;
 
 macro_rules! refusals {
     ($($number:literal $name:ident $word:literal $when:literal)*) => {
-        /// Why a call was refused. A refused call has changed nothing. The numbers are the C functions'.
+        /// Why a call was refused. A refused call has changed nothing. The numbers are the C functions'; later versions
+        /// may have more.
         #[derive(Clone, Copy, Debug, PartialEq, Eq, Hash)]
         #[repr(u32)]
+        #[non_exhaustive]
         pub enum Refusal {
             $(#[doc = $when] $name = $number,)*
         }
 
         impl Refusal {
             /// All of them, by number.
-            pub const ALL: [Refusal; 15] = [$(Refusal::$name),*];
+            pub const ALL: &'static [Refusal] = &[$(Refusal::$name),*];
 
             /// Its word.
             pub fn word(self) -> &'static str {
@@ -51,9 +53,9 @@ refusals! {
 }
 
 impl Refusal {
-    /// The refusal of a number from 1 to 15.
+    /// The refusal of a number, if there is one.
     pub fn from_number(number: u32) -> Option<Refusal> {
-        Refusal::ALL.into_iter().find(|refusal| refusal.number() == number)
+        Refusal::ALL.iter().copied().find(|refusal| refusal.number() == number)
     }
 
     /// Its number.

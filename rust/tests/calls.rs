@@ -9,7 +9,7 @@ use wal_coordination::{
 };
 
 fn settings(mode: SharedWalOwnershipMode) -> Settings {
-    Settings { capacity: 4096, max_blocks: 1, reader_slots: 3, mode }
+    Settings::new(4096, 1, 3, mode)
 }
 
 /// Tests that hold in each lock mode.
@@ -372,7 +372,7 @@ fn only_process_scoped_slots_compare_their_local_owner() {
 
 #[test]
 fn settings_out_of_their_limits_are_refused() {
-    let good = settings(SharedWalOwnershipMode::LinuxOfd);
+    let mode = SharedWalOwnershipMode::LinuxOfd;
     let of = |given: Settings| {
         let refusal = Process::new(given, OneProcess).err();
         assert_eq!(OwnedMemory::fresh(&given, 1).err(), refusal);
@@ -380,21 +380,21 @@ fn settings_out_of_their_limits_are_refused() {
         refusal
     };
     for (capacity, refused) in [(0, true), (1, false), (65_536, false), (65_537, true), (u32::MAX, true)] {
-        assert_eq!(of(Settings { capacity, ..good }).is_some(), refused, "capacity {capacity}");
+        assert_eq!(of(Settings::new(capacity, 1, 3, mode)).is_some(), refused, "capacity {capacity}");
     }
     for (max_blocks, refused) in [(0, true), (1, false), (16, false), (17, true), (u32::MAX, true)] {
-        assert_eq!(of(Settings { max_blocks, ..good }).is_some(), refused, "blocks {max_blocks}");
+        assert_eq!(of(Settings::new(1, max_blocks, 3, mode)).is_some(), refused, "blocks {max_blocks}");
     }
     for (reader_slots, refused) in
         [(0, true), (1, false), (256, false), (257, true), (1 << 60, true), (usize::MAX, true)]
     {
-        assert_eq!(of(Settings { reader_slots, ..good }).is_some(), refused, "slots {reader_slots}");
+        assert_eq!(of(Settings::new(1, 1, reader_slots, mode)).is_some(), refused, "slots {reader_slots}");
     }
     let mode = SharedWalOwnershipMode::ProcessScopedFcntl;
-    assert_eq!(of(Settings { reader_slots: 257, mode, ..good }), Some(Refusal::Settings));
-    assert_eq!(of(Settings { mode, ..good }), None);
+    assert_eq!(of(Settings::new(1, 1, 257, mode)), Some(Refusal::Settings));
+    assert_eq!(of(Settings::new(1, 1, 256, mode)), None);
 
-    let good = Settings { max_blocks: 2, ..good };
+    let good = Settings::new(1, 2, 3, mode);
     for (starting_blocks, refused) in [(0, false), (2, false), (3, true), (u32::MAX, true)] {
         let refusal = OwnedMemory::fresh(&good, starting_blocks).err();
         assert_eq!(refusal, refused.then_some(Refusal::Settings), "starting blocks {starting_blocks}");
@@ -428,12 +428,37 @@ fn memory_that_is_too_short_is_not_made_fresh() {
 
 #[test]
 fn refusals_have_a_number_a_word_and_a_message() {
-    for (place, refusal) in Refusal::ALL.into_iter().enumerate() {
+    for (place, &refusal) in Refusal::ALL.iter().enumerate() {
         assert_eq!(refusal.number() as usize, place + 1);
         assert_eq!(Refusal::from_number(refusal.number()), Some(refusal));
     }
     assert_eq!(Refusal::from_number(0), None);
-    assert_eq!(Refusal::from_number(16), None);
+    assert_eq!(Refusal::from_number(Refusal::ALL.len() as u32 + 1), None);
     let message = Refusal::FrameOrder.to_string();
     assert_eq!(message, "refused 3 (frame order): the frame is not above the last one recorded");
+}
+
+#[test]
+fn long_parts_are_told_by_their_length() {
+    let settings = settings(SharedWalOwnershipMode::LinuxOfd);
+    let mut owned = OwnedMemory::fresh(&settings, 1).expect("the settings are good");
+    let told = ", pages: 4096, frames: 4096, hash: 8192, bitmap: 1, reader_frames: 3, reader_owners: 3 }";
+    assert!(format!("{owned:?}").ends_with(told));
+    assert!(format!("{:?}", owned.lend()).ends_with(told));
+    let process = Process::new(settings, OneProcess).expect("the settings are good");
+    assert!(format!("{process:?}").contains("local_readers: [0, 0, 0]"));
+}
+
+#[test]
+fn lent_locks_are_the_same_locks() -> Result<(), Refusal> {
+    let kernel = fresh(SharedWalOwnershipMode::LinuxOfd).0;
+    let (table, asked, failing) = (kernel.table.clone(), kernel.asked.clone(), kernel.failing.clone());
+    let mut locks = Locks { table, process: 1, asked, failing };
+    let mut owned = OwnedMemory::fresh(&settings(kernel.mode), 1)?;
+    let mut process = Process::new(settings(kernel.mode), &mut locks)?;
+    assert_eq!(process.try_acquire_writer(&mut owned.lend(), owner(1)), Ok(true));
+    assert_eq!(kernel.held(), [(LockByte::Writer, 1)]);
+    process.release_writer(&mut owned.lend(), owner(1))?;
+    assert_eq!(kernel.held(), []);
+    Ok(())
 }

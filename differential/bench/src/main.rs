@@ -1,4 +1,5 @@
 //! `./bench`: the port and the Rust on the same inputs, in turns.
+#![deny(unsafe_code)]
 
 mod clock;
 mod pages;

@@ -1,7 +1,7 @@
 //! The calls on readers: the sides, and what is measured.
 
 use calls::memory::{Memory, Settings, Slots, LINUX_OFD};
-use port::readers::Lent;
+use wal_coordination_sys::{self as sys, SharedReadMark, Slots as Lent};
 
 const OWNER: u64 = (7 << 32) + 1;
 const MARK: u64 = 1_000_000;
@@ -57,21 +57,19 @@ pub struct Port {
 }
 
 impl Port {
+    /// The slots, the published frame, the own cells and the card.
     #[inline]
-    fn lent(&mut self) -> (Lent<'_>, &[u8]) {
+    fn lent(&mut self) -> (Lent<'_>, u64, &mut [u64], &mut [SharedReadMark], &[u8]) {
         let Memory { header, slots, processes, .. } = &mut self.memory;
         let own = &mut processes[0];
         let lent = Lent {
             n: self.settings.slots as usize,
             mode: self.settings.mode,
-            max_frame: header.max_frame,
             bitmap: &mut slots.bitmap,
-            frames: &mut slots.frames,
-            owners: &mut slots.owners,
-            locals: &mut own.local_owners,
-            registry: &mut own.registry,
+            reader_frames: &mut slots.frames,
+            reader_owners: &mut slots.owners,
         };
-        (lent, &self.card)
+        (lent, header.max_frame, &mut own.local_owners, &mut own.registry, &self.card)
     }
 }
 
@@ -86,15 +84,16 @@ impl Side for Port {
 
     #[inline]
     fn register(&mut self) -> u32 {
-        let (mut lent, card) = self.lent();
-        let reply = lent.register(OWNER, MARK, card);
+        let (slots, _, local_readers, _, card) = self.lent();
+        let reply = sys::register_reader(slots, local_readers, card, OWNER, MARK);
         assert_eq!(reply.taken, 1);
         reply.slot as u32
     }
 
     #[inline]
     fn release(&mut self, slot: u32) {
-        assert_eq!(self.lent().0.unregister(slot, OWNER), 0);
+        let (slots, _, local_readers, registry, _) = self.lent();
+        assert_eq!(sys::unregister_reader(slots, local_readers, registry, slot as usize, OWNER), 0);
     }
 
     #[inline]
@@ -104,37 +103,39 @@ impl Side for Port {
 
     #[inline]
     fn register_shared(&mut self) -> u32 {
-        let (mut lent, card) = self.lent();
-        let reply = lent.register_shared(OWNER, MARK, card);
+        let (slots, _, local_readers, registry, card) = self.lent();
+        let reply = sys::register_reader_for_snapshot(slots, local_readers, registry, card, OWNER, MARK);
         assert_eq!(reply.taken, 1);
         reply.slot as u32
     }
 
     #[inline]
     fn release_shared(&mut self, slot: u32) {
-        assert_eq!(self.lent().0.unregister_shared(MARK, slot, OWNER), 0);
+        let (slots, _, local_readers, registry, _) = self.lent();
+        let slot = slot as usize;
+        assert_eq!(sys::unregister_reader_for_snapshot(slots, local_readers, registry, MARK, slot, OWNER), 0);
     }
 
     #[inline]
     fn floor(&mut self) -> u64 {
-        let (mut lent, card) = self.lent();
-        let reply = lent.floor(card);
+        let (slots, _, local_readers, _, card) = self.lent();
+        let reply = sys::min_active_reader_frame(slots, local_readers, card);
         assert_eq!(reply.refusal, 0);
         reply.mark
     }
 
     #[inline]
     fn limit(&mut self) -> u64 {
-        let (mut lent, card) = self.lent();
-        let reply = lent.limit(card);
+        let (slots, max_frame, local_readers, _, card) = self.lent();
+        let reply = sys::copy_back_limit(slots, max_frame, local_readers, card);
         assert_eq!(reply.refusal, 0);
         reply.limit
     }
 
     #[inline]
     fn has_db_file_reader(&mut self) -> bool {
-        let (mut lent, card) = self.lent();
-        let reply = lent.has_db_file_reader(card);
+        let (slots, _, local_readers, _, card) = self.lent();
+        let reply = sys::has_active_db_file_reader(slots, local_readers, card);
         assert_eq!(reply.refusal, 0);
         reply.active == 1
     }

@@ -1,7 +1,7 @@
 //! The calls that are measured, on the port and on the Rust.
 
-use calls::memory::{Header, Memory, Settings, LINUX_OFD};
-use port::functions::*;
+use calls::memory::{Memory, Settings, LINUX_OFD};
+use wal_coordination_sys::{self as sys, Index, ListReply};
 
 /// The settings of all measurements: 16 blocks, all in use.
 pub const SETTINGS: Settings = Settings { capacity: 65_536, max_blocks: 16, slots: 64, mode: LINUX_OFD };
@@ -36,113 +36,68 @@ impl Port {
             out_frames: vec![0; room],
         }
     }
+
+    #[inline]
+    fn index(&mut self) -> Index<'_> {
+        index(&mut self.memory)
+    }
+}
+
+#[inline]
+fn index(memory: &mut Memory) -> Index<'_> {
+    let Settings { capacity, max_blocks, .. } = SETTINGS;
+    let Memory { header, pages, frames, hash, .. } = memory;
+    Index { capacity, max_blocks, header, pages, frames, hash }
 }
 
 impl Side for Port {
     #[inline]
     fn record(&mut self, page: u64, frame: u64) {
-        let Memory { header, pages, frames, hash, .. } = &mut self.memory;
-        let reply = unsafe {
-            wal_record_frame(
-                SETTINGS.capacity,
-                SETTINGS.max_blocks,
-                header,
-                pages.as_mut_ptr(),
-                pages.len(),
-                frames.as_mut_ptr(),
-                frames.len(),
-                hash.as_mut_ptr(),
-                hash.len(),
-                page,
-                frame,
-                1,
-            )
-        };
+        let reply = sys::record_frame(self.index(), page, frame, 1);
         assert_eq!(reply.refusal, 0);
     }
 
     #[inline]
     fn rollback(&mut self, bound: u64) {
-        let Memory { header, pages, frames, hash, .. } = &mut self.memory;
-        let reply = unsafe {
-            wal_rollback_frames(
-                SETTINGS.capacity,
-                SETTINGS.max_blocks,
-                header,
-                pages.as_ptr(),
-                pages.len(),
-                frames.as_ptr(),
-                frames.len(),
-                hash.as_mut_ptr(),
-                hash.len(),
-                bound,
-            )
-        };
+        let reply = sys::rollback_frames(self.index(), bound);
         assert_eq!(reply.refusal, 0);
     }
 
     #[inline]
     fn find(&mut self, page: u64, min: u64, max: u64, watermark: Option<u64>) -> Option<u64> {
-        let Memory { header, pages, frames, hash, .. } = &self.memory;
-        let reply = unsafe {
-            wal_find_frame(
-                SETTINGS.capacity,
-                SETTINGS.max_blocks,
-                *header,
-                pages.as_ptr(),
-                pages.len(),
-                frames.as_ptr(),
-                frames.len(),
-                hash.as_ptr(),
-                hash.len(),
-                page,
-                min,
-                max,
-                watermark.is_some().into(),
-                watermark.unwrap_or(0),
-            )
-        };
+        let reply = sys::find_frame(self.index().to_read(), page, min, max, watermark);
         assert_eq!(reply.refusal, 0);
         (reply.found == 1).then_some(reply.frame)
     }
 
     #[inline]
     fn list(&mut self, min: u64, max: u64) -> (u64, u64) {
-        let Memory { header, pages, frames, hash, .. } = &self.memory;
-        let ListReply { refusal, count } = port::list::wal_list(
-            &SETTINGS,
-            *header,
-            pages,
-            frames,
-            hash,
-            min,
-            max,
-            &mut self.out_pages,
-            &mut self.out_frames,
-        );
+        let Self { memory, out_pages, out_frames, .. } = self;
+        let ListReply { refusal, count } =
+            sys::iter_latest_frames(index(memory).to_read(), min, max, out_pages, out_frames);
         assert_eq!(refusal, 0);
         (count, self.out_frames[..count as usize].iter().sum())
     }
 
     #[inline]
     fn commit(&mut self, max_frame: u64, transaction_count: u64) {
-        unsafe { wal_publish_commit(&mut self.memory.header, max_frame, 1, 2, transaction_count) }
+        sys::publish_commit(&mut self.memory.header, max_frame, 1, 2, transaction_count);
     }
 
     #[inline]
     fn acquire_and_release(&mut self, owner: u64) -> bool {
-        let header: &mut Header = &mut self.memory.header;
-        let reply = unsafe { wal_try_acquire_writer(header, self.local_writer, owner, 1) };
+        let header = &mut self.memory.header;
+        let reply = sys::try_acquire_writer(header, self.local_writer, owner, 1);
         self.local_writer = reply.local_owner;
         let got = reply.answer == 1;
-        let reply = unsafe { wal_release_writer(SETTINGS.mode, header, self.local_writer, owner) };
+        let reply = sys::release_writer(SETTINGS.mode, header, self.local_writer, owner);
         self.local_writer = reply.local_owner;
         got
     }
 
     #[inline]
     fn bump(&mut self) -> u32 {
-        unsafe { wal_bump_checkpoint_seq(&mut self.memory.header) }
+        sys::bump_checkpoint_seq(&mut self.memory.header)
     }
 }
 

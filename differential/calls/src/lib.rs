@@ -12,6 +12,7 @@
 //!   the program.
 //! - `exhaustive`: all short sequences of calls on the index.
 //! - `states`: every state of two reader slots, and each call on readers in it.
+#![forbid(unsafe_code)]
 
 pub mod columns;
 pub mod demand3;

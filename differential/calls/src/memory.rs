@@ -2,6 +2,10 @@
 
 use std::fmt::{Display, Write};
 
+/// The header cells of document 01, and one record of a registry of shared marks, as the C interface has both. With 0
+/// holders a record is empty.
+pub use wal_coordination_sys::{Header, SharedReadMark as Record};
+
 /// Entries of one block of the index.
 pub const BLOCK_ENTRIES: usize = 4096;
 /// Hash cells of one block of the index.
@@ -37,25 +41,6 @@ impl Settings {
     pub fn good_mode(&self) -> bool {
         self.mode <= PROCESS_SCOPED_FCNTL
     }
-}
-
-/// The header cells of document 01, in the order of the port's C interface.
-#[repr(C)]
-#[derive(Clone, Copy, Debug, Default, PartialEq, Eq)]
-pub struct Header {
-    pub frame_index_blocks: u32,
-    pub frame_index_len: u32,
-    pub frame_index_overflowed: u32,
-    pub max_frame: u64,
-    pub nbackfills: u64,
-    pub transaction_count: u64,
-    pub visibility_generation: u64,
-    pub checkpoint_seq: u32,
-    pub checkpoint_epoch: u32,
-    pub checksum_1: u32,
-    pub checksum_2: u32,
-    pub writer_owner: u64,
-    pub checkpoint_owner: u64,
 }
 
 /// A header cell, by the word that scripts and dumps have for it.
@@ -102,43 +87,42 @@ impl HeaderCell {
             MaxFrame | Nback | Tx | Gen | Wowner | Cowner => u64::MAX,
         }
     }
-}
 
-impl Header {
-    pub fn get(&self, cell: HeaderCell) -> u64 {
-        match cell {
-            HeaderCell::Len => self.frame_index_len.into(),
-            HeaderCell::Flag => self.frame_index_overflowed.into(),
-            HeaderCell::Blocks => self.frame_index_blocks.into(),
-            HeaderCell::MaxFrame => self.max_frame,
-            HeaderCell::Nback => self.nbackfills,
-            HeaderCell::Tx => self.transaction_count,
-            HeaderCell::Gen => self.visibility_generation,
-            HeaderCell::Seq => self.checkpoint_seq.into(),
-            HeaderCell::Epoch => self.checkpoint_epoch.into(),
-            HeaderCell::Ck1 => self.checksum_1.into(),
-            HeaderCell::Ck2 => self.checksum_2.into(),
-            HeaderCell::Wowner => self.writer_owner,
-            HeaderCell::Cowner => self.checkpoint_owner,
+    /// Its value.
+    pub fn of(self, header: &Header) -> u64 {
+        match self {
+            Self::Len => header.frame_index_len.into(),
+            Self::Flag => header.frame_index_overflowed.into(),
+            Self::Blocks => header.frame_index_blocks.into(),
+            Self::MaxFrame => header.max_frame,
+            Self::Nback => header.nbackfills,
+            Self::Tx => header.transaction_count,
+            Self::Gen => header.visibility_generation,
+            Self::Seq => header.checkpoint_seq.into(),
+            Self::Epoch => header.checkpoint_epoch.into(),
+            Self::Ck1 => header.checksum_1.into(),
+            Self::Ck2 => header.checksum_2.into(),
+            Self::Wowner => header.writer_owner,
+            Self::Cowner => header.checkpoint_owner,
         }
     }
 
-    /// The value is at most the cell's greatest.
-    pub fn set(&mut self, cell: HeaderCell, value: u64) {
-        match cell {
-            HeaderCell::Len => self.frame_index_len = value as u32,
-            HeaderCell::Flag => self.frame_index_overflowed = value as u32,
-            HeaderCell::Blocks => self.frame_index_blocks = value as u32,
-            HeaderCell::MaxFrame => self.max_frame = value,
-            HeaderCell::Nback => self.nbackfills = value,
-            HeaderCell::Tx => self.transaction_count = value,
-            HeaderCell::Gen => self.visibility_generation = value,
-            HeaderCell::Seq => self.checkpoint_seq = value as u32,
-            HeaderCell::Epoch => self.checkpoint_epoch = value as u32,
-            HeaderCell::Ck1 => self.checksum_1 = value as u32,
-            HeaderCell::Ck2 => self.checksum_2 = value as u32,
-            HeaderCell::Wowner => self.writer_owner = value,
-            HeaderCell::Cowner => self.checkpoint_owner = value,
+    /// Becomes a value that is at most its greatest.
+    pub fn set(self, header: &mut Header, value: u64) {
+        match self {
+            Self::Len => header.frame_index_len = value as u32,
+            Self::Flag => header.frame_index_overflowed = value as u32,
+            Self::Blocks => header.frame_index_blocks = value as u32,
+            Self::MaxFrame => header.max_frame = value,
+            Self::Nback => header.nbackfills = value,
+            Self::Tx => header.transaction_count = value,
+            Self::Gen => header.visibility_generation = value,
+            Self::Seq => header.checkpoint_seq = value as u32,
+            Self::Epoch => header.checkpoint_epoch = value as u32,
+            Self::Ck1 => header.checksum_1 = value as u32,
+            Self::Ck2 => header.checksum_2 = value as u32,
+            Self::Wowner => header.writer_owner = value,
+            Self::Cowner => header.checkpoint_owner = value,
         }
     }
 }
@@ -168,16 +152,6 @@ impl Slots {
     pub fn is_free(&self, slot: usize) -> bool {
         self.bitmap[slot / 64] >> (slot % 64) & 1 == 1
     }
-}
-
-/// One record of a registry of shared marks, as in the port's C interface; with 0 holders it is empty.
-#[repr(C)]
-#[derive(Clone, Copy, Debug, Default, PartialEq, Eq)]
-pub struct Record {
-    pub mark: u64,
-    pub slot: u32,
-    pub owner: u64,
-    pub holders: u32,
 }
 
 /// What one process keeps for itself.
@@ -268,7 +242,7 @@ impl Memory {
         let blocks = settings.max_blocks as usize;
         let slots = settings.slots as usize;
         Self {
-            header: Header { frame_index_blocks: start_blocks, ..Header::default() },
+            header: Header::fresh(start_blocks),
             pages: vec![0; BLOCK_ENTRIES * blocks],
             frames: vec![0; BLOCK_ENTRIES * blocks],
             hash: vec![0; BLOCK_HASH_CELLS * blocks],
@@ -287,6 +261,16 @@ impl Memory {
         self.processes.clone_from(&other.processes);
     }
 
+    /// Whether every cell but the index is the same, in empty records too.
+    pub fn same_but_index(&self, other: &Self) -> bool {
+        self.header == other.header && self.slots == other.slots && self.processes == other.processes
+    }
+
+    /// Whether every cell of the index is the same.
+    pub fn same_index(&self, other: &Self) -> bool {
+        self.pages == other.pages && self.frames == other.frames && self.hash == other.hash
+    }
+
     /// Pokes a cell that there is.
     pub fn poke(&mut self, cell: SharedCell, index: usize, value: u64) {
         match cell {
@@ -296,7 +280,7 @@ impl Memory {
             SharedCell::Bitmap => self.slots.bitmap[index] = value,
             SharedCell::SlotFrame => self.slots.frames[index] = value,
             SharedCell::SlotOwner => self.slots.owners[index] = value,
-            SharedCell::Header(cell) => self.header.set(cell, value),
+            SharedCell::Header(cell) => cell.set(&mut self.header, value),
         }
     }
 
@@ -305,7 +289,7 @@ impl Memory {
         let own = &self.processes[process];
         let mut line = String::from("dump");
         for (word, cell) in HEADER_CELLS {
-            let _ = write!(line, " {word}={}", self.header.get(cell));
+            let _ = write!(line, " {word}={}", cell.of(&self.header));
         }
         let parts: [(&str, &[u64]); 2] = [("pages", &self.pages), ("frames", &self.frames)];
         for (word, cells) in parts {
@@ -404,12 +388,12 @@ pub struct Differing {
 }
 
 impl Differing {
-    /// As a difference between the port, the one, and the Rust, the other.
-    pub fn between_sides(&self) -> String {
+    /// As a difference between two sides.
+    pub fn between(&self, sides: [&str; 2]) -> String {
         let process = self.process.map_or(String::new(), |process| format!("process {process} "));
         let index = self.index.map_or(String::new(), |index| format!(" {index}"));
-        let [port, rust] = &self.values;
-        format!("{process}{}{index}: port {port}, Rust {rust}", self.name)
+        let ([one, other], [this, that]) = (&self.values, sides);
+        format!("{process}{}{index}: {this} {one}, {that} {other}", self.name)
     }
 
     /// As a change from the one to the other.
@@ -424,7 +408,7 @@ impl Differing {
 pub fn differing_cells(one: &Memory, other: &Memory) -> Vec<Differing> {
     let mut found = Search { process: None, found: Vec::new() };
     for (name, cell) in HEADER_CELLS {
-        found.cell(name, &one.header.get(cell), &other.header.get(cell));
+        found.cell(name, &cell.of(&one.header), &cell.of(&other.header));
     }
     found.cells("page", &one.pages, &other.pages);
     found.cells("frame", &one.frames, &other.frames);
@@ -495,7 +479,7 @@ mod tests {
         let settings = Settings { capacity: 8, max_blocks: 1, slots: 2, mode: LINUX_OFD };
         let mut memory = Memory::fresh(&settings, 1, 1);
         memory.header.max_frame = 9;
-        memory.processes[0].registry[1] = Record { mark: 4, slot: 1, owner: 7, holders: 2 };
+        memory.processes[0].registry[1] = Record::new(4, 1, 7, 2);
         let line = memory.dump(0);
         assert!(line.starts_with("dump len=0 flag=0 blocks=1 maxframe=9 nback=0 tx=0 gen=0 seq=0 epoch=0 ck1=0 ck2=0 wowner=0 cowner=0 pages="));
         assert!(line.ends_with(" lwriter=0 lckpt=0 registry=4:1:7:2"));
@@ -515,7 +499,7 @@ mod tests {
         rust.processes[0].local_owners[1] = 7;
         let cells = differing_cells(&port, &rust);
         assert_eq!(
-            cells.iter().map(Differing::between_sides).collect::<Vec<_>>(),
+            cells.iter().map(|cell| cell.between(["port", "Rust"])).collect::<Vec<_>>(),
             ["maxframe: port 0, Rust 9", "hash 8191: port 0, Rust 3", "process 0 lowner 1: port 0, Rust 7"]
         );
         assert_eq!(

@@ -23,6 +23,7 @@ pub struct Tally {
     pub on_index: u64,
     pub on_readers: u64,
     pub refused: u64,
+    pub through_process: u64,
     /// Under a hold.
     pub checked: Checked,
 }
@@ -73,6 +74,7 @@ pub fn run(sides: Sides, wanted: &Wanted, mut each: impl FnMut(&[Line])) -> Resu
         tally.on_index += session.on_index;
         tally.on_readers += session.on_readers;
         tally.refused += session.refused;
+        tally.through_process += session.through_process;
         tally.checked.add(&session.demand3.checked);
     }
     Ok(tally)

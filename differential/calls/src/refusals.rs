@@ -196,8 +196,11 @@ impl Asked<'_> {
         let resets = frame == 1 && header.max_frame == 0;
         let len = if resets { 0 } else { header.frame_index_len };
         let mut blocks = header.frame_index_blocks;
+        if len >= self.settings.capacity {
+            return RustOnRefusal::Accepts;
+        }
         // As many blocks as it takes, or dropped.
-        while len < self.settings.capacity {
+        loop {
             let Some(entries) = blocks.checked_mul(BLOCK_ENTRIES as u32) else { return RustOnRefusal::Panics };
             if len < entries {
                 let len = len as usize;
@@ -206,11 +209,10 @@ impl Asked<'_> {
                 return if stored { RustOnRefusal::Accepts } else { RustOnRefusal::Panics };
             }
             if !grow || blocks >= self.settings.max_blocks || blocks as usize >= self.memory.room_blocks() {
-                break;
+                return RustOnRefusal::Accepts;
             }
             blocks += 1;
         }
-        RustOnRefusal::Accepts
     }
 
     /// 1 and 2 of a call on the readers that takes the mode and uses these parts.
@@ -344,7 +346,7 @@ mod tests {
         memory.slots.frames.copy_from_slice(&[4, 5]);
         memory.slots.owners.copy_from_slice(&[7, 7]);
         memory.processes[0].local_owners.copy_from_slice(&[7, 7]);
-        memory.processes[0].registry[0] = Record { mark: 5, slot: 1, owner: 7, holders: 1 };
+        memory.processes[0].registry[0] = Record::new(5, 1, 7, 1);
         (settings, memory)
     }
 
@@ -415,17 +417,17 @@ mod tests {
         assert_eq!(number("record 0 1 1 0", &index), None); // resets
         index.1.hash.fill(1);
         assert_eq!(number("record 0 1 4 0", &index), Some(4));
-        index.1.header.set(HeaderCell::Len, 11);
+        HeaderCell::Len.set(&mut index.1.header, 11);
         assert_eq!(number("record 0 1 1 0", &index), Some(1));
         index.0.max_blocks = 2;
-        index.1.header.set(HeaderCell::Len, 10);
+        HeaderCell::Len.set(&mut index.1.header, 10);
         assert_eq!(number("find 0 1 1 1 -", &index), Some(2));
     }
 
     #[test]
     fn a_new_holder_needs_a_record() {
         let mut full = memory(LINUX_OFD);
-        full.1.processes[1].registry.fill(Record { mark: 1, slot: 0, owner: 1, holders: 65_535 });
+        full.1.processes[1].registry.fill(Record::new(1, 0, 1, 65_535));
         assert_eq!(number("regs 1 1 1 9", &full), Some(13));
         assert_eq!(number("regs 1 1 2 10", &full), Some(13));
         assert_eq!(number("regs 1 1 2 00", &full), None);

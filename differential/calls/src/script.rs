@@ -242,7 +242,7 @@ impl Line {
             }
             "registry" => {
                 let (process, index) = (w.number()?, w.number()?);
-                let record = Record { mark: w.number()?, slot: w.number()?, owner: w.number()?, holders: w.number()? };
+                let record = Record::new(w.number()?, w.number()?, w.number()?, w.number()?);
                 Self::Registry { process, index, record }
             }
             "lend" => {
@@ -311,6 +311,14 @@ impl Call {
                 | Self::RollbackFrames { .. }
                 | Self::FindFrame { .. }
                 | Self::IterLatestFrames { .. }
+        )
+    }
+
+    /// Lookup, list, and an owner's numbers: calls that can change no cell.
+    pub fn only_reads(&self) -> bool {
+        matches!(
+            self,
+            Self::FindFrame { .. } | Self::IterLatestFrames { .. } | Self::OwnerNew { .. } | Self::OwnerParts { .. }
         )
     }
 

@@ -11,10 +11,12 @@ use crate::script::{Answer, Call, Line, New};
 use crate::sides::{Given, Lent, MakeRust, Panicked, Port, Rust};
 use std::fmt;
 
-/// The sides that a script runs on: one of them, or both.
-#[derive(Clone, Copy)]
+/// The sides that a script runs on: the port, the Rust, or both.
+#[derive(Clone, Copy, Default)]
 pub struct Sides<'a> {
     pub port: Option<&'a dyn Port>,
+    /// The port by another way, which must answer and leave every cell as the port does.
+    pub process: Option<&'a dyn Port>,
     pub rust: Option<MakeRust>,
 }
 
@@ -55,10 +57,16 @@ pub struct Difference {
 }
 
 impl Difference {
-    fn new(line: &Line, port: String, rust: String, cells: Vec<String>) -> Box<Self> {
-        Box::new(Self { line: line.clone(), answers: [("port", port), ("Rust", rust)], cells })
+    fn new(line: &Line, sides: [&'static str; 2], answers: [String; 2], cells: &[Differing]) -> Box<Self> {
+        let ([this, that], [one, other]) = (sides, answers);
+        let cells = cells.iter().map(|cell| cell.between(sides)).collect();
+        Box::new(Self { line: line.clone(), answers: [(this, one), (that, other)], cells })
     }
 }
+
+/// The sides' names in a difference.
+const RUST: [&str; 2] = ["port", "Rust"];
+const PROCESS: [&str; 2] = ["port", "Process"];
 
 /// How many of the differing cells are shown.
 const SHOWN_CELLS: usize = 40;
@@ -82,6 +90,7 @@ impl fmt::Display for Difference {
 /// The memory of each side, and what calls are given.
 struct World {
     port: Option<Memory>,
+    process: Option<Memory>,
     rust: Option<Box<dyn Rust>>,
     settings: Settings,
     lent: Lent,
@@ -105,13 +114,24 @@ pub struct Session<'a> {
     /// And those on readers.
     pub on_readers: u64,
     pub refused: u64,
+    /// Calls that went through the `process` side too.
+    pub through_process: u64,
     pub demand3: Demand3,
 }
 
 impl<'a> Session<'a> {
     pub fn new(sides: Sides<'a>) -> Self {
-        let demand3 = Demand3::default();
-        Self { sides, world: None, cells: Cells::All, calls: 0, on_index: 0, on_readers: 0, refused: 0, demand3 }
+        Self {
+            sides,
+            world: None,
+            cells: Cells::All,
+            calls: 0,
+            on_index: 0,
+            on_readers: 0,
+            refused: 0,
+            through_process: 0,
+            demand3: Demand3::default(),
+        }
     }
 
     /// The memory as it stands, of the port if it takes part; `None` before the first `new`.
@@ -132,9 +152,9 @@ impl<'a> Session<'a> {
     /// Gives both sides the memory that was kept.
     pub fn put_back(&mut self, kept: &Memory) {
         self.demand3.stop();
-        let World { port, rust, .. } = self.world.as_mut().expect("memory was kept");
-        port.as_mut().expect("memory of the port was kept").copy_of(kept);
-        if let Some(rust) = rust {
+        let world = self.world.as_mut().expect("memory was kept");
+        world.memories().for_each(|memory| memory.copy_of(kept));
+        if let Some(rust) = &mut world.rust {
             rust.set_memory(kept);
         }
     }
@@ -142,12 +162,12 @@ impl<'a> Session<'a> {
     /// Gives both sides these slots and own cells.
     pub fn set_readers(&mut self, slots: &Slots, own: &[Own]) {
         self.demand3.stop();
-        let World { port, rust, .. } = self.world.as_mut().expect("a script opens with new");
-        if let Some(memory) = port {
+        let world = self.world.as_mut().expect("a script opens with new");
+        for memory in world.memories() {
             memory.slots.clone_from(slots);
             memory.processes.clone_from_slice(own);
         }
-        if let Some(rust) = rust {
+        if let Some(rust) = &mut world.rust {
             rust.set_readers(slots, own);
         }
     }
@@ -177,6 +197,8 @@ impl<'a> Session<'a> {
             Line::Call { process, call } if *process < world.processes() => {
                 let reply = world.call(self.sides.port, *process, call, line, self.cells)?;
                 if let Reply::Answer(answer) = &reply {
+                    let went = world.through_process(self.sides.process, *process, call, answer, line, self.cells)?;
+                    self.through_process += u64::from(went);
                     self.calls += 1;
                     self.on_index += u64::from(call.is_on_index());
                     self.on_readers += u64::from(call.is_on_readers());
@@ -216,8 +238,10 @@ impl<'a> Session<'a> {
 
 impl World {
     fn new(sides: &Sides, new: &New) -> Self {
+        let fresh = |_| Memory::fresh(&new.settings, new.start_blocks, new.processes);
         Self {
-            port: sides.port.map(|_| Memory::fresh(&new.settings, new.start_blocks, new.processes)),
+            port: sides.port.map(fresh),
+            process: sides.port.and(sides.process).map(fresh),
             rust: sides.rust.map(|make| make(new)),
             settings: new.settings,
             lent: Lent::default(),
@@ -230,6 +254,11 @@ impl World {
             (None, Some(rust)) => &**rust,
             (None, None) => unreachable!("a session has a side"),
         }
+    }
+
+    /// That of the port, and that of the port by another way.
+    fn memories(&mut self) -> impl Iterator<Item = &mut Memory> {
+        [&mut self.port, &mut self.process].into_iter().flatten()
     }
 
     fn processes(&self) -> usize {
@@ -273,15 +302,43 @@ impl World {
         };
         match rust_answer {
             Ok(answer) if agree => Ok(Reply::Answer(answer)),
-            _ => Err(Difference::new(
-                line,
-                port_answer.map_or("not asked".into(), |answer| answer.to_string()),
-                rust_answer.map_or_else(|words| words, |answer| answer.to_string()),
-                self.port.as_ref().map_or(Vec::new(), |memory| {
-                    differing_cells(memory, &copy(&**rust)).iter().map(Differing::between_sides).collect()
-                }),
-            )),
+            _ => {
+                let answers = [
+                    port_answer.map_or("not asked".into(), |answer| answer.to_string()),
+                    rust_answer.map_or_else(|words| words, |answer| answer.to_string()),
+                ];
+                let cells = self.port.as_ref().map_or(Vec::new(), |memory| differing_cells(memory, &copy(&**rust)));
+                Err(Difference::new(line, RUST, answers, &cells))
+            }
         }
+    }
+
+    /// Makes a call that the port has answered by the other way too, and tells whether it could be made so.
+    fn through_process(
+        &mut self,
+        side: Option<&dyn Port>,
+        process: usize,
+        call: &Call,
+        answer: &Answer,
+        line: &Line,
+        cells: Cells,
+    ) -> Result<bool, Box<Difference>> {
+        let (Some(side), Some(port), Some(memory)) = (side, &self.port, &mut self.process) else { return Ok(false) };
+        let given = Given { memory, process, settings: self.settings, lent: self.lent };
+        let Some(other) = side.call(given, call) else {
+            memory.copy_of(port);
+            return Ok(false);
+        };
+        // A call that only reads is lent memory that Rust's types let nobody change.
+        let cells = if call.only_reads() { Cells::None } else { cells };
+        let agree = other == *answer
+            && (cells == Cells::None || memory.same_but_index(port))
+            && (cells != Cells::All || memory.same_index(port));
+        if agree {
+            return Ok(true);
+        }
+        let answers = [answer.to_string(), other.to_string()];
+        Err(Difference::new(line, PROCESS, answers, &differing_cells(port, memory)))
     }
 
     /// The number by the table of refusals, and what the Rust must do then. A list's length is the Rust's.
@@ -307,7 +364,7 @@ impl World {
         let port = self.port.as_ref().map(|memory| memory.dump(process));
         let rust = self.rust.as_ref().map(|rust| copy(&**rust).dump(process));
         match (port, rust) {
-            (Some(port), Some(rust)) if port != rust => Err(Difference::new(line, port, rust, vec![])),
+            (Some(port), Some(rust)) if port != rust => Err(Difference::new(line, RUST, [port, rust], &[])),
             (Some(dump), _) | (None, Some(dump)) => Ok(Reply::Dump(dump)),
             (None, None) => unreachable!("a session has a side"),
         }
@@ -325,9 +382,7 @@ impl World {
         if index >= cells as u64 {
             return false;
         }
-        if let Some(memory) = &mut self.port {
-            memory.poke(cell, index as usize, value);
-        }
+        self.memories().for_each(|memory| memory.poke(cell, index as usize, value));
         if let Some(rust) = &mut self.rust {
             rust.poke(cell, index as usize, value);
         }
@@ -339,9 +394,7 @@ impl World {
         if !self.view().processes().get(process).is_some_and(exists) {
             return false;
         }
-        if let Some(memory) = &mut self.port {
-            memory.processes[process].poke(cell, index as usize, value);
-        }
+        self.memories().for_each(|memory| memory.processes[process].poke(cell, index as usize, value));
         if let Some(rust) = &mut self.rust {
             rust.poke_own(process, cell, index as usize, value);
         }
@@ -353,9 +406,7 @@ impl World {
         if !self.view().processes().get(process).is_some_and(exists) {
             return false;
         }
-        if let Some(memory) = &mut self.port {
-            memory.processes[process].registry[index as usize] = record;
-        }
+        self.memories().for_each(|memory| memory.processes[process].registry[index as usize] = record);
         if let Some(rust) = &mut self.rust {
             rust.poke_registry(process, index as usize, record);
         }

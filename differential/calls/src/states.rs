@@ -105,7 +105,7 @@ impl State {
 
 /// Empty, with one record, with two, and damaged: a mark twice, a slot twice or beyond n, too many holders.
 fn registries() -> [[Record; SLOTS]; 7] {
-    let record = |mark, slot, owner, holders| Record { mark, slot, owner, holders };
+    let record = Record::new;
     let empty = Record::default();
     [
         [empty, empty],

@@ -1,4 +1,5 @@
 //! `./compare`: call scripts on the port and on the Rust.
+#![forbid(unsafe_code)]
 
 mod program;
 
@@ -20,6 +21,8 @@ const USAGE: &str = "usage: compare FILE                      each call on both 
        compare --rust FILE               the Rust's answers
        compare --random SEED SEQUENCES [FAMILY..]   scripts of the tool's own making, on both sides
                                          FAMILY: header, index, readers, shared or holds; none: all that the port has
+       compare --process SEED SEQUENCES [FAMILY..]   the same on the port alone: do the Rust crate's Process and the C
+                                         functions answer alike?
        compare --demand3 SEED SEQUENCES  scripts of holds on the port alone: is demand 3 met?
        compare --random-rust SEED SEQUENCES   the same on the Rust alone, against the table of refusals
        compare --exhaustive LENGTH       every state of two slots with each call on readers, and all sequences of up
@@ -32,9 +35,9 @@ const USAGE: &str = "usage: compare FILE                      each call on both 
        compare --input SEED NAME         prints one of these inputs";
 
 #[cfg(feature = "port")]
-const PORT: Option<&dyn Port> = Some(&port::Library);
+const PORT: [Option<&dyn Port>; 2] = [Some(&port::Library), Some(&port::ThroughProcess)];
 #[cfg(not(feature = "port"))]
-const PORT: Option<&dyn Port> = None;
+const PORT: [Option<&dyn Port>; 2] = [None, None];
 
 #[cfg(feature = "oracle")]
 const RUST: Option<MakeRust> = Some(oracle::fresh);
@@ -42,17 +45,23 @@ const RUST: Option<MakeRust> = Some(oracle::fresh);
 const RUST: Option<MakeRust> = None;
 
 const DEMAND3: &str = "--demand3";
+const PROCESS: &str = "--process";
+/// What works without the Rust source.
+const WITHOUT_RUST: [&str; 5] = ["--port", PROCESS, DEMAND3, "--cases", "--input"];
 
 type Run = fn(Sides, &[&str]) -> ExitCode;
 
 fn main() -> ExitCode {
     let words: Vec<String> = std::env::args().skip(1).collect();
     let words: Vec<&str> = words.iter().map(String::as_str).collect();
-    let both = Sides { port: PORT, rust: RUST };
+    let [port, process] = PORT;
+    let all = Sides { port, process, rust: RUST };
+    let both = Sides { process: None, ..all };
     let (run, sides): (Run, Sides) = match words[..] {
-        ["--port", _] => (script, Sides { rust: None, ..both }),
+        ["--port", _] => (script, Sides { rust: None, ..all }),
         ["--rust", _] => (script, Sides { port: None, ..both }),
-        ["--random", _, _, ..] => (random_scripts, both),
+        ["--random", _, _, ..] => (random_scripts, all),
+        [PROCESS, _, _, ..] => (random_scripts, Sides { rust: None, ..all }),
         [DEMAND3, _, _] => (holds, Sides { rust: None, ..both }),
         ["--exhaustive", _] => (all_sequences, both),
         ["--scripts", _, _, ..] => (print_scripts, both),
@@ -62,11 +71,11 @@ fn main() -> ExitCode {
         ["--program", _] => (run_program, Sides { port: None, ..both }),
         ["--input", _, _] => (print_input, both),
         ["--random-rust", _, _, ..] => (random_scripts, Sides { port: None, ..both }),
-        [file] if !file.starts_with("--") => (script, both),
+        [file] if !file.starts_with("--") => (script, all),
         _ => return fault(USAGE),
     };
-    if RUST.is_none() && !["--port", DEMAND3, "--cases", "--input"].contains(&words[0]) {
-        return fault("the Rust source is missing: only --port, --demand3, --cases and --input work");
+    if RUST.is_none() && !WITHOUT_RUST.contains(&words[0]) {
+        return fault(&format!("the Rust source is missing: only {} work", WITHOUT_RUST.join(", ")));
     }
     run(sides, &words)
 }
@@ -130,12 +139,19 @@ fn random_scripts(sides: Sides, words: &[&str]) -> ExitCode {
         Ok(Tally { checked, .. }) if words[0] == DEMAND3 && checked == Checked::default() => {
             nothing("no answer was owed to a hold")
         }
-        Ok(Tally { calls, on_index, on_readers, refused, checked }) => {
+        Ok(Tally { through_process: 0, .. }) if sides.process.is_some() => nothing("no call went through Process"),
+        Ok(Tally { calls, on_index, on_readers, refused, through_process, checked }) => {
             let Wanted { seed, sequences, .. } = wanted;
             let calls = format!("{calls} calls ({on_index} on the index, {on_readers} on readers)");
             let Checked { lookups, lists, floors, limits } = checked;
             let held = format!("{lookups} lookups, {lists} lists, {floors} floors and {limits} limits under a hold");
-            println!("random: {seed}, {sequences} sequences, {calls}, {refused} refused, {held}, no difference");
+            let through = match sides.process {
+                Some(_) => format!("{through_process} through Process too, "),
+                None => String::new(),
+            };
+            println!(
+                "random: {seed}, {sequences} sequences, {calls}, {through}{refused} refused, {held}, no difference"
+            );
             ExitCode::SUCCESS
         }
         Err(found) => told(&found),

@@ -14,12 +14,14 @@ static OPENED: AtomicU64 = AtomicU64::new(0);
 impl Direct {
     /// Fresh memory with all blocks in use. Locks and growth are granted.
     pub fn new(settings: &Settings) -> Self {
+        // The Rust takes an Arc; one thread has it.
+        #[allow(clippy::arc_with_non_send_sync)]
         let file = Arc::new(MappedFile::new(settings.max_blocks as usize));
         file.set_lock(1);
         let opened = OPENED.fetch_add(1, Ordering::Relaxed);
         let process = Process::open(file.clone(), &format!("direct-{opened}"), settings);
         process.set_index_settings(settings.capacity, settings.max_blocks);
-        process.set_header(&Header { frame_index_blocks: settings.max_blocks, ..Header::default() });
+        process.set_header(&Header::fresh(settings.max_blocks));
         Self(process, file)
     }
 

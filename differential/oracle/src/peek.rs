@@ -76,21 +76,21 @@ impl Process {
     pub(crate) fn header(&self) -> Header {
         let h = self.0.header();
         let (word, long) = (|c: &AtomicU32| c.load(Ordering::Relaxed), |c: &AtomicU64| c.load(Ordering::Relaxed));
-        Header {
-            frame_index_blocks: word(&h.frame_index_blocks),
-            frame_index_len: word(&h.frame_index_len),
-            frame_index_overflowed: word(&h.frame_index_overflowed),
-            max_frame: long(&h.max_frame),
-            nbackfills: long(&h.nbackfills),
-            transaction_count: long(&h.transaction_count),
-            visibility_generation: long(&h.visibility_generation),
-            checkpoint_seq: word(&h.checkpoint_seq),
-            checkpoint_epoch: word(&h.checkpoint_epoch),
-            checksum_1: word(&h.checksum_1),
-            checksum_2: word(&h.checksum_2),
-            writer_owner: long(&h.writer_owner),
-            checkpoint_owner: long(&h.checkpoint_owner),
-        }
+        let mut cells = Header::default();
+        cells.frame_index_blocks = word(&h.frame_index_blocks);
+        cells.frame_index_len = word(&h.frame_index_len);
+        cells.frame_index_overflowed = word(&h.frame_index_overflowed);
+        cells.max_frame = long(&h.max_frame);
+        cells.nbackfills = long(&h.nbackfills);
+        cells.transaction_count = long(&h.transaction_count);
+        cells.visibility_generation = long(&h.visibility_generation);
+        cells.checkpoint_seq = word(&h.checkpoint_seq);
+        cells.checkpoint_epoch = word(&h.checkpoint_epoch);
+        cells.checksum_1 = word(&h.checksum_1);
+        cells.checksum_2 = word(&h.checksum_2);
+        cells.writer_owner = long(&h.writer_owner);
+        cells.checkpoint_owner = long(&h.checkpoint_owner);
+        cells
     }
 
     pub(crate) fn set_header(&self, cells: &Header) {
@@ -205,7 +205,7 @@ fn read_registry(own: &mut Own, records: usize, map: &HashMap<u64, SharedReadMar
     for (&mark, registration) in map {
         if own.shared(records, mark).is_none() {
             let (slot, owner, _) = answered(registration.slot);
-            let record = Record { mark, slot, owner, holders: registration.ref_count as u32 };
+            let record = Record::new(mark, slot, owner, registration.ref_count as u32);
             match own.empty_record(records) {
                 Some(empty) => own.registry[empty] = record,
                 // The map has no limit; document 01 refuses the call.

@@ -30,6 +30,8 @@ static WORLDS: AtomicU64 = AtomicU64::new(0);
 pub fn fresh(new: &New) -> Box<dyn Rust> {
     silence_caught_panics();
     let settings = new.settings;
+    // The Rust takes an Arc; one thread has it.
+    #[allow(clippy::arc_with_non_send_sync)]
     let file = Arc::new(MappedFile::new(settings.max_blocks as usize));
     let world = WORLDS.fetch_add(1, Ordering::Relaxed);
     let processes: Vec<Process> = (0..new.processes)
@@ -45,8 +47,7 @@ pub fn fresh(new: &New) -> Box<dyn Rust> {
         kept: Vec::new(),
     };
     world.processes.iter().for_each(Process::unmap_blocks);
-    let header = Header { frame_index_blocks: new.start_blocks, ..Header::default() };
-    world.processes[0].set_header(&header);
+    world.processes[0].set_header(&Header::fresh(new.start_blocks));
     world.processes[0].set_index_settings(settings.capacity, settings.max_blocks);
     world.place_slots();
     Box::new(world)
@@ -307,7 +308,7 @@ impl Rust for World {
             SharedCell::SlotOwner => self.slots.owners[index] = value,
             SharedCell::Header(cell) => {
                 let mut header = self.header();
-                header.set(cell, value);
+                cell.set(&mut header, value);
                 self.processes[0].set_header(&header);
             }
         }

@@ -5,7 +5,7 @@ use calls::random::{self, Wanted};
 use calls::script::Line;
 use calls::session::{Session, Sides};
 
-const RUST: Sides = Sides { port: None, rust: Some(oracle::fresh) };
+const RUST: Sides = Sides { port: None, process: None, rust: Some(oracle::fresh) };
 
 /// Each line of the script with its answer after ` => `.
 fn check(script: &str) {

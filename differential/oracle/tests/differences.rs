@@ -6,6 +6,7 @@ use calls::script::{Answer, Card, Line};
 use calls::session::{Session, Sides};
 use calls::sides::{Given, Port};
 use calls::states;
+use std::cell::Cell;
 
 /// A port of one call, which may be wrong where the number wraps, in its answer or in a cell beside it.
 #[derive(Default)]
@@ -55,7 +56,7 @@ impl Port for NoDbFileReader {
 }
 
 fn with(port: &dyn Port) -> Sides<'_> {
-    Sides { port: Some(port), rust: Some(oracle::fresh) }
+    Sides { port: Some(port), process: None, rust: Some(oracle::fresh) }
 }
 
 #[test]
@@ -107,4 +108,40 @@ fn a_wrong_answer_and_a_wrong_cell_are_told() {
         let difference = session.step(&Line::parse("seq 0")).expect_err("a difference");
         assert_eq!(difference.to_string(), format!("difference at: seq 0\n{told}"));
     }
+}
+
+#[test]
+fn the_port_by_another_way_is_held_against_the_port() {
+    for (process, told) in [
+        (Bump { answers_old: true, ..Bump::default() }, "  port: seq 1\n  Process: seq 0\n"),
+        (
+            Bump { writes_beside: true, ..Bump::default() },
+            "  port: seq 1\n  Process: seq 1\n  hash 8191: port 0, Process 1\n",
+        ),
+    ] {
+        let port = Bump::default();
+        let mut session = Session::new(Sides { process: Some(&process), ..with(&port) });
+        session.step(&Line::parse("new 1 1 1 1 O 1")).expect("fresh memory");
+        let difference = session.step(&Line::parse("seq 0")).expect_err("a difference");
+        assert_eq!(difference.to_string(), format!("difference at: seq 0\n{told}"));
+    }
+}
+
+/// Another way that has no first call.
+struct FromTheSecond(Cell<bool>);
+
+impl Port for FromTheSecond {
+    fn bump_checkpoint_seq(&self, g: Given) -> Option<Answer> {
+        self.0.replace(true).then(|| Bump::default().bump_checkpoint_seq(g))?
+    }
+}
+
+#[test]
+fn what_the_other_way_does_not_have_is_left_to_the_port() {
+    let (port, process) = (Bump::default(), FromTheSecond(Cell::new(false)));
+    let mut session = Session::new(Sides { process: Some(&process), ..with(&port) });
+    for line in ["new 1 1 1 1 O 1", "poke seq 0 7", "seq 0", "seq 0"] {
+        session.step(&Line::parse(line)).unwrap_or_else(|difference| panic!("{difference}"));
+    }
+    assert_eq!((session.calls, session.through_process), (2, 1));
 }

@@ -1,15 +1,16 @@
-//! The port as a side of the comparison, over the C functions of its static library.
+//! The port as two sides of the comparison: the C functions of its library, and `Process` of the Rust crate over them.
+#![forbid(unsafe_code)]
 
-#[path = "../../../rust/src/functions.rs"]
-pub mod functions;
-pub mod list;
-pub mod readers;
+mod list;
+mod process;
+mod readers;
 
-use calls::memory::{Header, Record as SharedReadMark};
 use calls::script::{Answer, Card};
 use calls::sides::{Given, Parts, Port};
-use functions::*;
 use readers::Lent;
+use wal_coordination_sys as sys;
+
+pub use process::ThroughProcess;
 
 /// The answer that a reply gives, if the interface allows it.
 fn answer(refusal: u32, answer: u32, accepted: impl FnOnce(u32) -> Option<Answer>) -> Answer {
@@ -41,72 +42,29 @@ fn recorded(reply: u32) -> Option<Answer> {
     }
 }
 
+/// What a call on the index is given.
+fn index(g: Given<'_>) -> sys::Index<'_> {
+    let (capacity, max_blocks) = (g.settings.capacity, g.settings.max_blocks);
+    let Parts { header, pages, frames, hash, .. } = g.parts();
+    sys::Index { capacity, max_blocks, header, pages, frames, hash }
+}
+
+/// The C functions.
 pub struct Library;
 
 impl Port for Library {
     fn record_frame(&self, g: Given, page: u64, frame: u64, grow: bool) -> Option<Answer> {
-        let (capacity, max_blocks) = (g.settings.capacity, g.settings.max_blocks);
-        let Parts { header, pages, frames, hash, .. } = g.parts();
-        let reply = unsafe {
-            wal_record_frame(
-                capacity,
-                max_blocks,
-                header,
-                pages.as_mut_ptr(),
-                pages.len(),
-                frames.as_mut_ptr(),
-                frames.len(),
-                hash.as_mut_ptr(),
-                hash.len(),
-                page,
-                frame,
-                grow.into(),
-            )
-        };
+        let reply = sys::record_frame(index(g), page, frame, grow.into());
         Some(answer(reply.refusal, reply.answer, recorded))
     }
 
     fn rollback_frames(&self, g: Given, bound: u64) -> Option<Answer> {
-        let (capacity, max_blocks) = (g.settings.capacity, g.settings.max_blocks);
-        let Parts { header, pages, frames, hash, .. } = g.parts();
-        let reply = unsafe {
-            wal_rollback_frames(
-                capacity,
-                max_blocks,
-                header,
-                pages.as_ptr(),
-                pages.len(),
-                frames.as_ptr(),
-                frames.len(),
-                hash.as_mut_ptr(),
-                hash.len(),
-                bound,
-            )
-        };
+        let reply = sys::rollback_frames(index(g), bound);
         Some(answer(reply.refusal, reply.answer, |kept| Some(Answer::Kept(kept))))
     }
 
     fn find_frame(&self, g: Given, page: u64, min: u64, max: u64, watermark: Option<u64>) -> Option<Answer> {
-        let (capacity, max_blocks) = (g.settings.capacity, g.settings.max_blocks);
-        let Parts { header, pages, frames, hash, .. } = g.parts();
-        let reply = unsafe {
-            wal_find_frame(
-                capacity,
-                max_blocks,
-                *header,
-                pages.as_ptr(),
-                pages.len(),
-                frames.as_ptr(),
-                frames.len(),
-                hash.as_ptr(),
-                hash.len(),
-                page,
-                min,
-                max,
-                watermark.is_some().into(),
-                watermark.unwrap_or(0),
-            )
-        };
+        let reply = sys::find_frame(index(g).to_read(), page, min, max, watermark);
         let frame = match (reply.found, reply.frame) {
             (0, 0) | (1, _) => reply.frame,
             _ => return Some(Answer::Odd(format!("found {} and frame {}", reply.found, reply.frame))),
@@ -118,12 +76,11 @@ impl Port for Library {
     }
 
     fn owner_new(&self, pid: u32, instance_id: u32) -> Option<Answer> {
-        Some(Answer::Owner(unsafe { wal_owner_new(pid, instance_id) }))
+        Some(Answer::Owner(sys::owner_new(pid, instance_id)))
     }
 
     fn owner_parts(&self, owner: u64) -> Option<Answer> {
-        let (pid, instance_id) = unsafe { (wal_owner_pid(owner), wal_owner_instance_id(owner)) };
-        Some(Answer::Parts { pid, instance_id })
+        Some(Answer::Parts { pid: sys::owner_pid(owner), instance_id: sys::owner_instance_id(owner) })
     }
 
     fn iter_latest_frames(&self, g: Given, min: u64, max: u64, room: u64) -> Option<Answer> {
@@ -138,84 +95,84 @@ impl Port for Library {
         checksum_2: u32,
         transaction_count: u64,
     ) -> Option<Answer> {
-        unsafe { wal_publish_commit(&mut g.memory.header, max_frame, checksum_1, checksum_2, transaction_count) };
+        sys::publish_commit(&mut g.memory.header, max_frame, checksum_1, checksum_2, transaction_count);
         Some(Answer::Done)
     }
 
     fn publish_backfill(&self, g: Given, nbackfills: u64) -> Option<Answer> {
-        unsafe { wal_publish_backfill(&mut g.memory.header, nbackfills) };
+        sys::publish_backfill(&mut g.memory.header, nbackfills);
         Some(Answer::Done)
     }
 
     fn bump_checkpoint_seq(&self, g: Given) -> Option<Answer> {
-        Some(Answer::Seq(unsafe { wal_bump_checkpoint_seq(&mut g.memory.header) }))
+        Some(Answer::Seq(sys::bump_checkpoint_seq(&mut g.memory.header)))
     }
 
     fn bump_checkpoint_epoch(&self, g: Given) -> Option<Answer> {
-        Some(Answer::Epoch(unsafe { wal_bump_checkpoint_epoch(&mut g.memory.header) }))
+        Some(Answer::Epoch(sys::bump_checkpoint_epoch(&mut g.memory.header)))
     }
 
     fn try_acquire_writer(&self, g: Given, owner: u64, byte: u8) -> Option<Answer> {
         let cell = &mut g.memory.processes[g.process].local_writer;
-        let reply = unsafe { wal_try_acquire_writer(&mut g.memory.header, *cell, owner, byte) };
+        let reply = sys::try_acquire_writer(&mut g.memory.header, *cell, owner, byte);
         *cell = reply.local_owner;
         Some(answer(reply.refusal, reply.answer, acquired))
     }
 
     fn try_acquire_checkpoint(&self, g: Given, owner: u64, byte: u8) -> Option<Answer> {
         let cell = &mut g.memory.processes[g.process].local_checkpoint;
-        let reply = unsafe { wal_try_acquire_checkpoint(&mut g.memory.header, *cell, owner, byte) };
+        let reply = sys::try_acquire_checkpoint(&mut g.memory.header, *cell, owner, byte);
         *cell = reply.local_owner;
         Some(answer(reply.refusal, reply.answer, acquired))
     }
 
     fn release_writer(&self, g: Given, owner: u64) -> Option<Answer> {
         let cell = &mut g.memory.processes[g.process].local_writer;
-        let reply = unsafe { wal_release_writer(g.settings.mode, &mut g.memory.header, *cell, owner) };
+        let reply = sys::release_writer(g.settings.mode, &mut g.memory.header, *cell, owner);
         *cell = reply.local_owner;
         Some(answer(reply.refusal, reply.answer, released))
     }
 
     fn release_checkpoint(&self, g: Given, owner: u64) -> Option<Answer> {
         let cell = &mut g.memory.processes[g.process].local_checkpoint;
-        let reply = unsafe { wal_release_checkpoint(g.settings.mode, &mut g.memory.header, *cell, owner) };
+        let reply = sys::release_checkpoint(g.settings.mode, &mut g.memory.header, *cell, owner);
         *cell = reply.local_owner;
         Some(answer(reply.refusal, reply.answer, released))
     }
 
     fn register_reader(&self, g: Given, owner: u64, mark: u64, card: &Card) -> Option<Answer> {
-        Some(Lent::new(g).register(owner, mark, card).answer())
+        Some(Lent::new(g).register(owner, mark, card))
     }
 
     fn register_reader_for_snapshot(&self, g: Given, owner: u64, mark: u64, card: &Card) -> Option<Answer> {
-        Some(Lent::new(g).register_shared(owner, mark, card).answer())
+        Some(Lent::new(g).register_shared(owner, mark, card))
     }
 
     fn register_db_file_reader(&self, g: Given, owner: u64, card: &Card) -> Option<Answer> {
-        Some(Lent::new(g).register_db_file(owner, card).answer())
+        Some(Lent::new(g).register_db_file(owner, card))
     }
 
     fn update_reader(&self, g: Given, slot: u32, owner: u64, mark: u64) -> Option<Answer> {
-        Some(Lent::new(g).update(slot, owner, mark).answer())
+        Some(Lent::new(g).update(slot, owner, mark))
     }
 
     fn unregister_reader(&self, g: Given, slot: u32, owner: u64) -> Option<Answer> {
-        Some(readers::released(Lent::new(g).unregister(slot, owner)))
+        Some(Lent::new(g).unregister(slot, owner))
     }
 
     fn unregister_reader_for_snapshot(&self, g: Given, mark: u64, slot: u32, owner: u64) -> Option<Answer> {
-        Some(readers::released(Lent::new(g).unregister_shared(mark, slot, owner)))
+        Some(Lent::new(g).unregister_shared(mark, slot, owner))
     }
 
     fn min_active_reader_frame(&self, g: Given, card: &Card) -> Option<Answer> {
-        Some(Lent::new(g).floor(card).answer())
+        Some(Lent::new(g).floor(card))
     }
 
     fn has_active_db_file_reader(&self, g: Given, card: &Card) -> Option<Answer> {
-        Some(Lent::new(g).has_db_file_reader(card).answer())
+        Some(Lent::new(g).has_db_file_reader(card))
     }
 
     fn copy_back_limit(&self, g: Given, card: &Card) -> Option<Answer> {
-        Some(Lent::new(g).limit(card).answer())
+        Some(Lent::new(g).limit(card))
     }
 }

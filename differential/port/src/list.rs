@@ -1,52 +1,17 @@
 //! The list and its output cells: what it must not write it must leave.
 
-use crate::functions::{wal_iter_latest_frames, ListReply};
-use calls::memory::{Header, Settings};
+use crate::index;
 use calls::script::Answer;
-use calls::sides::{Given, Parts};
+use calls::sides::Given;
+use wal_coordination_sys::{self as sys, IndexToRead, ListReply};
 
 /// More pairs than an index can have.
-const MOST_PAIRS: u64 = 70_000;
+pub(crate) const MOST_PAIRS: u64 = 70_000;
 /// Cells past the lent ones.
 const GUARDS: usize = 4;
 /// Output below this many pairs is also lent with more cells for pages or for frames alone.
 const SHORT: usize = 1000;
 const MORE: usize = 9;
-
-/// The C function on slices.
-#[allow(clippy::too_many_arguments)]
-#[inline]
-pub fn wal_list(
-    settings: &Settings,
-    header: Header,
-    pages: &[u64],
-    frames: &[u64],
-    hash: &[u16],
-    min: u64,
-    max: u64,
-    out_pages: &mut [u64],
-    out_frames: &mut [u64],
-) -> ListReply {
-    unsafe {
-        wal_iter_latest_frames(
-            settings.capacity,
-            settings.max_blocks,
-            header,
-            pages.as_ptr(),
-            pages.len(),
-            frames.as_ptr(),
-            frames.len(),
-            hash.as_ptr(),
-            hash.len(),
-            min,
-            max,
-            out_pages.as_mut_ptr(),
-            out_pages.len(),
-            out_frames.as_mut_ptr(),
-            out_frames.len(),
-        )
-    }
-}
 
 /// What an output cell holds before the call: no two cells the same.
 fn untouched(cell: usize) -> u64 {
@@ -62,14 +27,11 @@ fn is_touched(cells: &[u64], from: usize) -> bool {
 }
 
 /// A list into so many lent cells for pages and for frames.
-fn list_into(parts: &Parts, settings: &Settings, bounds: (u64, u64), rooms: [usize; 2]) -> Answer {
-    let Parts { header, pages, frames, hash, .. } = parts;
-    let (min, max) = bounds;
+fn list_into(index: IndexToRead, (min, max): (u64, u64), rooms: [usize; 2]) -> Answer {
     let mut out = rooms.map(output);
     let [out_pages, out_frames] = &mut out;
     let (lent_pages, lent_frames) = (&mut out_pages[..rooms[0]], &mut out_frames[..rooms[1]]);
-    let ListReply { refusal, count } =
-        wal_list(settings, **header, pages, frames, hash, min, max, lent_pages, lent_frames);
+    let ListReply { refusal, count } = sys::iter_latest_frames(index, min, max, lent_pages, lent_frames);
     let odd = |words| Answer::Odd(format!("refusal {refusal} and count {count}{words}"));
     if refusal != 0 && count != 0 || rooms.iter().any(|&room| count > room as u64) {
         return odd("");
@@ -88,13 +50,13 @@ fn list_into(parts: &Parts, settings: &Settings, bounds: (u64, u64), rooms: [usi
 /// Nothing but the output changes, so a short list is made three times: with as many cells for pages as for frames, and
 /// with more for either. The answers must be the same.
 pub(crate) fn iter_latest_frames(g: Given, min: u64, max: u64, room: u64) -> Answer {
-    let settings = g.settings;
-    let parts = g.parts();
+    let index = index(g);
+    let index = index.to_read();
     let room = room.min(MOST_PAIRS) as usize;
-    let answer = list_into(&parts, &settings, (min, max), [room, room]);
+    let answer = list_into(index, (min, max), [room, room]);
     if room < SHORT {
         for rooms in [[room, room + MORE], [room + MORE, room]] {
-            let other = list_into(&parts, &settings, (min, max), rooms);
+            let other = list_into(index, (min, max), rooms);
             if other != answer {
                 return Answer::Odd(format!("{answer}; with {rooms:?} cells {other}"));
             }

@@ -13,8 +13,8 @@ use wal_coordination::{
     Memory, Process, Recorded, Refusal, Settings, SharedOwnerRecord, SharedReaderSlot, SharedWalOwnershipMode,
 };
 
-const SETTINGS: Settings =
-    Settings { capacity: 8192, max_blocks: 2, reader_slots: 4, mode: SharedWalOwnershipMode::LinuxOfd };
+/// 8,192 entries in two blocks, and four reader slots.
+const SETTINGS: Settings = Settings::new(8192, 2, 4, SharedWalOwnershipMode::LinuxOfd);
 
 fn main() -> std::io::Result<()> {
     match &std::env::args().collect::<Vec<_>>()[1..] {

@@ -100,6 +100,7 @@ impl SharedFile {
         if file.metadata()?.len() < layout.end as u64 {
             return Err(io::Error::other("the file is too short"));
         }
+        // SAFETY: The system chooses the place; the file is as long as the mapping.
         let begin = unsafe { mmap(std::ptr::null_mut(), layout.end, READ_AND_WRITE, MAP_SHARED, file.as_raw_fd(), 0) };
         if begin as isize == -1 {
             return Err(io::Error::last_os_error());
@@ -123,12 +124,18 @@ impl SharedFile {
 
 impl Drop for SharedFile {
     fn drop(&mut self) {
+        // SAFETY: It is mapped there, and nobody is lent a part of it any more.
         unsafe { munmap(self.begin, self.layout.end) };
     }
 }
 
-/// `count` numbers that begin so many bytes after `begin`. They are there, aligned, and lent to nobody else.
+/// `count` numbers that begin so many bytes after `begin`.
+///
+/// # Safety
+///
+/// They are there, aligned, of a type of which all bytes are a number, and lent to nobody else.
 unsafe fn part<'a, T>(begin: *mut c_void, at: usize, count: usize) -> &'a mut [T] {
+    // SAFETY: As the caller keeps to.
     unsafe { std::slice::from_raw_parts_mut(begin.byte_add(at).cast(), count) }
 }
 
@@ -142,8 +149,8 @@ impl Turn<'_> {
     /// The memory.
     pub fn memory(&mut self) -> Memory<'_> {
         let SharedFile { begin, ref layout, ref settings, .. } = *self.file;
-        // The parts lie one after the other in the mapping, aligned to 8 bytes, and other processes wait for their
-        // turn.
+        // SAFETY: The parts lie one after the other in the mapping, aligned to 8 bytes, and other processes wait for
+        // their turn.
         unsafe {
             Memory {
                 header: &mut *begin.cast(),
@@ -185,6 +192,7 @@ pub struct OfdLocks {
 impl OfdLocks {
     fn set(&self, place: i64, kind: i16, command: c_int) -> io::Result<()> {
         let lock = Flock { kind, whence: 0, start: self.first + place, len: 1, pid: 0 };
+        // SAFETY: The command takes a lock's description, and this is one.
         match unsafe { fcntl(self.file.as_raw_fd(), command, &lock) } {
             -1 => Err(io::Error::last_os_error()),
             _ => Ok(()),

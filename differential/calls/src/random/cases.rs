@@ -86,11 +86,11 @@ impl Case {
     fn new(number: u64, mut dice: Dice) -> Self {
         let mut header = Header::default();
         for cell in HEADER {
-            header.set(cell, number_of(&mut dice) & cell.greatest());
+            cell.set(&mut header, number_of(&mut dice) & cell.greatest());
         }
         for cell in [HeaderCell::Gen, HeaderCell::Seq, HeaderCell::Epoch] {
             if dice.one_in(4) {
-                header.set(cell, cell.greatest());
+                cell.set(&mut header, cell.greatest());
             }
         }
         // A lock is mostly released where it is held, and mostly acquired where it is not.
@@ -196,7 +196,7 @@ impl Case {
             row.extend([self.n.into(), self.mode.into(), self.bitmap]);
             row.extend([self.frames, self.owners, self.local_owners].concat());
         } else {
-            row.extend(HEADER.map(|cell| self.header.get(cell)));
+            row.extend(HEADER.map(|cell| cell.of(&self.header)));
         }
         row.extend(self.own_cell().map(|_| self.own_lock));
         row.extend(match self.call {
@@ -243,7 +243,7 @@ impl Case {
             }
             lines.push(poke(SharedCell::Header(HeaderCell::MaxFrame), 0, self.header.max_frame));
         } else {
-            lines.extend(HEADER.map(|cell| poke(SharedCell::Header(cell), 0, self.header.get(cell))));
+            lines.extend(HEADER.map(|cell| poke(SharedCell::Header(cell), 0, cell.of(&self.header))));
         }
         lines.extend(self.own_cell().map(|cell| Line::Own { process: 0, cell, index: 0, value: self.own_lock }));
         lines.push(Line::Call { process: 0, call: self.call.clone() });
@@ -265,7 +265,7 @@ impl Case {
             row.extend(view.slots().parts().concat());
             row.extend(&view.processes()[0].local_owners);
         } else {
-            row.extend(HEADER.map(|cell| view.header().get(cell)));
+            row.extend(HEADER.map(|cell| cell.of(&view.header())));
         }
         row.extend(self.own_cell().map(|cell| own_cell(view, cell)));
         Ok(row)

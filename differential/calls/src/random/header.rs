@@ -58,7 +58,7 @@ impl Maker<'_> {
             HeaderCell::Cowner,
         ];
         let cell = if self.dice.one_in(20) { self.dice.of(&HEADER_CELLS).1 } else { self.dice.of(&cells) };
-        let near = self.number_near(header.get(cell));
+        let near = self.number_near(cell.of(header));
         let value = match self.dice.below(3) {
             0 => cell.greatest(),
             _ => near & cell.greatest(),

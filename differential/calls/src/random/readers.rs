@@ -163,13 +163,9 @@ impl Maker<'_> {
             13 | 14 => {
                 let index = self.dice.index(own.registry.len()) as u64;
                 let slots = own.registry.len() as u64;
-                let record = Record {
-                    mark: self.mark(),
-                    slot: self.dice.below(slots + 1) as u32,
-                    owner: self.owner(),
-                    holders: self.dice.of(&[0, 1, 1, 2, 65_534, 65_535, 65_536]),
-                };
-                return Line::Registry { process, index, record };
+                let (mark, slot, owner) = (self.mark(), self.dice.below(slots + 1) as u32, self.owner());
+                let holders = self.dice.of(&[0, 1, 1, 2, 65_534, 65_535, 65_536]);
+                return Line::Registry { process, index, record: Record::new(mark, slot, owner, holders) };
             }
             _ => return self.reader_line(view, settings),
         };
