@@ -50,7 +50,7 @@ moved-twice : (m m′ m″ : Memory) → OwnersMoved m m′ → OwnersMoved m′
 moved-twice m m′ m″ a b = ap (owners-from (m″ .header)) a ∙ b
 
 moved-by-one : (s : Store) (m : Memory) → ToOwner s → OwnersMoved m (put s m)
-moved-by-one s m x = elim x [ | to-owner lock v ↦ by-lock lock v ]
+moved-by-one s m x = elim x [ to-owner lock v ↦ by-lock lock v ]
   where
     by-lock : (lock : Lock) (v : ℕ) → OwnersMoved m (put (to-header (owner-cell lock) v) m)
     by-lock Writer v = refl
