@@ -11,7 +11,6 @@ use borrow.Author.Tests.{eq-eqb, ne-eqb}
 use Rattle.wal_types.specs.Settings.{unused}
 use Rattle.wal_types.specs.Memory.{Memory, Process}
 use Rattle.wal_types.specs.Call.{Done, after}
-use Rattle.header_publish.specs.Publish.{publish-commit}
 use Rattle.reader_slots.specs.Slots.{held}
 use Rattle.reader_register.proofs.Taken.{TookSlot, register-took}
 use Rattle.sequence.specs.Sequence.{Settings, look, IndexOp, record-op, rollback-op, on-index, HeaderOp, acquire-op, unlock-op, backfill-op, seq-op, epoch-op, on-header, ProbeOp, floor-op, limit-op, db-reader-op, SlotOp, register-op, move-op, release-op, SharedOp, share-op, unshare-op, Op, look-op, index-op, commit-op, header-op, probe-op, slot-op, shared-op, perform, World, Event, answer-of, next, run, FreshWorld, Throughout}
@@ -25,13 +24,13 @@ use Rattle.sequence.proofs.ReadersInv.{Sound, Count, nobody, somebody, 
 
 -- the calls of a family that leave the slots alone
 index-leaves : (s : Settings) (o : IndexOp) → LeavesSlots (on-index s o)
-index-leaves s (record-op page frame grow) = record-leaves (s .capacity) (s .max-blocks) page frame grow
-index-leaves s (rollback-op bound) = rollback-leaves (s .capacity) (s .max-blocks) bound
+index-leaves s (record-op page frame grow) = record-leaves _ _ _ _ _
+index-leaves s (rollback-op bound) = rollback-leaves _ _ _
 
 header-leaves : (s : Settings) (o : HeaderOp) → LeavesSlots (on-header s o)
-header-leaves s (acquire-op lock owner byte) = acquire-leaves lock owner byte
-header-leaves s (unlock-op lock owner) = unlock-leaves lock (s .mode) owner
-header-leaves s (backfill-op n) = backfill-leaves n
+header-leaves s (acquire-op lock owner byte) = acquire-leaves _ _ _
+header-leaves s (unlock-op lock owner) = unlock-leaves _ _ _
+header-leaves s (backfill-op n) = backfill-leaves _
 header-leaves s seq-op = seq-leaves
 header-leaves s epoch-op = epoch-leaves
 
@@ -57,7 +56,7 @@ module _ (s : Settings) (m : Memory) (p : Process) where
   step-of : (op : Op) → OwnStep op
   step-of (look-op o) = leaves-step _ m p _ _ (λ k c. refl) _ (left-by (look s o) (reads-leave (look s o) (only-looks s o)) m p)
   step-of (index-op o) = leaves-step _ m p _ _ (λ k c. refl) _ (left-by (on-index s o) (index-leaves s o) m p)
-  step-of (commit-op frame c1 c2 count) = leaves-step _ m p _ _ (λ k c. refl) _ (left-by (publish-commit frame c1 c2 count) (commit-leaves frame c1 c2 count) m p)
+  step-of (commit-op frame c1 c2 count) = leaves-step _ m p _ _ (λ k c. refl) _ (left-by (perform s (commit-op frame c1 c2 count)) (commit-leaves _ _ _ _) m p)
   step-of (header-op o) = leaves-step _ m p _ _ (λ k c. refl) _ (left-by (on-header s o) (header-leaves s o) m p)
   step-of (probe-op o) = probe-step o
   step-of (slot-op o) = slot-step o
