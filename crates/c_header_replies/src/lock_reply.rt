@@ -84,38 +84,43 @@ fn left(header: Header, owners: Owners) -> LockLeft
 pub fn try_acquire_writer(header: Header, local_owner: u64, owner: u64, card: u8) -> LockLeft
     ensures { λ r. ⌜ LockReplied Writer (try-acquire Writer owner card) header «local_owner» (r .header) (r .reply) ⌝ }
 {
-    let held = SharedOwnerRecord(local_owner);
-    let answer = header_locks::try_acquire_writer(header, held, SharedOwnerRecord(owner), card);
-    left(header, acquired(answer, header, held))
+    let local = SharedOwnerRecord(local_owner);
+    let answer = header_locks::try_acquire_writer(header, local, SharedOwnerRecord(owner), card);
+    left(header, acquired(answer, header, local))
 }
 
 pub fn try_acquire_checkpoint(header: Header, local_owner: u64, owner: u64, card: u8) -> LockLeft
     ensures { λ r. ⌜ LockReplied Checkpoint (try-acquire Checkpoint owner card) header «local_owner» (r .header) (r .reply) ⌝ }
 {
-    let held = SharedOwnerRecord(local_owner);
-    let answer = header_locks::try_acquire_checkpoint(header, held, SharedOwnerRecord(owner), card);
-    left(header, acquired(answer, header, held))
+    let local = SharedOwnerRecord(local_owner);
+    let answer = header_locks::try_acquire_checkpoint(
+        header,
+        local,
+        SharedOwnerRecord(owner),
+        card,
+    );
+    left(header, acquired(answer, header, local))
 }
 
 // Refused if mode is no mode's number.
 pub fn release_writer(mode: u32, header: Header, local_owner: u64, owner: u64) -> LockLeft
     ensures { λ r. ⌜ LockReplied Writer (with-mode (mode-given mode) (λ given. release Writer given owner)) header «local_owner» (r .header) (r .reply) ⌝ }
 {
-    let held = SharedOwnerRecord(local_owner);
+    let local = SharedOwnerRecord(local_owner);
     let Mode::Given(given) = c_numbers::mode_of(mode) else {
-        return left(header, owners_of(refusal::SETTINGS, 0, held, header));
+        return left(header, owners_of(refusal::SETTINGS, 0, local, header));
     };
-    let answer = header_locks::release_writer(given, header, held, SharedOwnerRecord(owner));
-    left(header, released(answer, header, held))
+    let answer = header_locks::release_writer(given, header, local, SharedOwnerRecord(owner));
+    left(header, released(answer, header, local))
 }
 
 pub fn release_checkpoint(mode: u32, header: Header, local_owner: u64, owner: u64) -> LockLeft
     ensures { λ r. ⌜ LockReplied Checkpoint (with-mode (mode-given mode) (λ given. release Checkpoint given owner)) header «local_owner» (r .header) (r .reply) ⌝ }
 {
-    let held = SharedOwnerRecord(local_owner);
+    let local = SharedOwnerRecord(local_owner);
     let Mode::Given(given) = c_numbers::mode_of(mode) else {
-        return left(header, owners_of(refusal::SETTINGS, 0, held, header));
+        return left(header, owners_of(refusal::SETTINGS, 0, local, header));
     };
-    let answer = header_locks::release_checkpoint(given, header, held, SharedOwnerRecord(owner));
-    left(header, released(answer, header, held))
+    let answer = header_locks::release_checkpoint(given, header, local, SharedOwnerRecord(owner));
+    left(header, released(answer, header, local))
 }
