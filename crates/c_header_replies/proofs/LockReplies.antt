@@ -5,7 +5,7 @@ use Prim.Native.Nat.{ℕ}
 use Rattle.wal_types.specs.declared.Header.{Header}
 use Rattle.wal_types.specs.declared.SharedWalOwnershipMode.{SharedWalOwnershipMode}
 use Rattle.wal_types.specs.Memory.{Memory, Process, with-header, header-with, writer-owner, checkpoint-owner, Store, to-header, put}
-use Rattle.wal_types.specs.Call.{Call, Answer, refused}
+use Rattle.wal_types.specs.Call.{Call, Answer}
 use Rattle.wal_types.proofs.Every.{EveryOfCall, by-every}
 use Rattle.header_locks.specs.declared.Lock.{Lock}
 use Rattle.header_locks.specs.declared.Lock.the-variants.{Writer, Checkpoint}
@@ -19,7 +19,7 @@ use Rattle.c_header_replies.specs.declared.lock_reply.LockReply.{LockRep
 use Rattle.c_numbers.specs.declared.Mode.{Mode}
 use Rattle.c_numbers.specs.declared.Mode.the-variants.{Given, Unknown}
 use Rattle.c_numbers.specs.Reply.{refusal-number, answer-number}
-use Rattle.c_header_replies.specs.LockReply.{acquire-owners, release-owners, with-owners, LockReplied}
+use Rattle.c_header_replies.specs.LockReply.{owners-of, acquire-owners, release-owners, with-owners, LockReplied}
 use Rattle.c_numbers.specs.Mode.{with-mode}
 
 -- a store to a lock's owner cell
@@ -34,7 +34,7 @@ pub acquire-stores : (lock : Lock) (owner byte : ℕ) → OwnersOnly (try-acquir
 acquire-stores lock = acquire-stores-to ToOwner lock (to-owner lock)
 
 -- a release whose mode is a number
-pub moded-stores : (lock : Lock) (mode : Mode) (owner : ℕ) → OwnersOnly (with-mode mode (λ given. release lock given owner))
+moded-stores : (lock : Lock) (mode : Mode) (owner : ℕ) → OwnersOnly (with-mode mode (λ given. release lock given owner))
 moded-stores lock (Given mode) owner = release-stores-to ToOwner lock (to-owner lock) mode owner
 moded-stores lock Unknown owner = λ m p. tt
 
@@ -70,14 +70,18 @@ module _ (lock : Lock) (call : Call) (only : OwnersOnly call) (h : Header) (o : 
   acquire-told Busy e = told _ _ _ e _ refl
   acquire-told (Refused n) e = told _ _ _ e _ refl
 
-  pub release-told : (a : Release) → LockCall lock call h o (release-answer a) (release-header h a) (release-local o a) → LockReplied lock call h o (with-owners (release-owners a h o) h .header) (release-owners a h o .reply)
+  release-told : (a : Release) → LockCall lock call h o (release-answer a) (release-header h a) (release-local o a) → LockReplied lock call h o (with-owners (release-owners a h o) h .header) (release-owners a h o .reply)
   release-told (Released next w) e = told _ _ _ e _ refl
   release-told (NotReleased n) e = told _ _ _ e _ refl
 
 -- a release whose mode is a number: refused where the number is no mode's
-module _ (lock : Lock) (call : SharedWalOwnershipMode → Call) (h : Header) (o : ℕ) where
-  pub unknown-call : (mode : Mode) → mode ≡ Unknown → LockCall lock (with-mode mode call) h o (refused 1) h o
-  unknown-call mode e z p = rw e
+module _ (lock : Lock) (mode : Mode) (owner : ℕ) (h : Header) (o : ℕ) where
+  abbrev moded : Call
+  moded = with-mode mode (λ given. release lock given owner)
 
-  pub given-call : (mode : Mode) (given : SharedWalOwnershipMode) (a : Answer) (g : Header) (w : ℕ) → mode ≡ Given given → LockCall lock (call given) h o a g w → LockCall lock (with-mode mode call) h o a g w
-  given-call mode given a g w e l = rw e l
+  pub unknown-told : mode ≡ Unknown → LockReplied lock moded h o (with-owners (owners-of 1 0 o h) h .header) (owners-of 1 0 o h .reply)
+  unknown-told e = release-told lock moded (moded-stores lock mode owner) h o (NotReleased 1) (λ z p. rw e)
+
+  pub given-told : (given : SharedWalOwnershipMode) (a : Release) → mode ≡ Given given → LockCall lock (release lock given owner) h o (release-answer a) (release-header h a) (release-local o a)
+      → LockReplied lock moded h o (with-owners (release-owners a h o) h .header) (release-owners a h o .reply)
+  given-told given a e l = release-told lock moded (moded-stores lock mode owner) h o a (rw e l)

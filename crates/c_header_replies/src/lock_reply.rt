@@ -7,7 +7,7 @@ use wal_types::SharedOwnerRecord;
 use wal_types::refusal;
 ghost use mathlib.Core.Path.{_≡_};
 ghost use Rattle.header_locks.specs.declared.Lock.the-variants.{Writer, Checkpoint};
-ghost use Rattle.header_locks.specs.Locks.{try-acquire, release, release-answer, release-header, release-local, LockCall};
+ghost use Rattle.header_locks.specs.Locks.{try-acquire, release};
 ghost use Rattle.c_numbers.specs.Mode.{mode-given, with-mode};
 ghost use Rattle.c_header_replies.specs.LockReply.{owners-of, acquire-owners, release-owners, with-owners, LockReplied};
 
@@ -84,60 +84,43 @@ fn left(header: Header, owners: Owners) -> LockLeft
 pub fn try_acquire_writer(header: Header, local_owner: u64, owner: u64, card: u8) -> LockLeft
     ensures { λ r. ⌜ LockReplied Writer (try-acquire Writer owner card) header «local_owner» (r .header) (r .reply) ⌝ }
 {
-    let held = SharedOwnerRecord(local_owner);
-    let answer = header_locks::try_acquire_writer(header, held, SharedOwnerRecord(owner), card);
-    left(header, acquired(answer, header, held))
+    let local = SharedOwnerRecord(local_owner);
+    let answer = header_locks::try_acquire_writer(header, local, SharedOwnerRecord(owner), card);
+    left(header, acquired(answer, header, local))
 }
 
 pub fn try_acquire_checkpoint(header: Header, local_owner: u64, owner: u64, card: u8) -> LockLeft
     ensures { λ r. ⌜ LockReplied Checkpoint (try-acquire Checkpoint owner card) header «local_owner» (r .header) (r .reply) ⌝ }
 {
-    let held = SharedOwnerRecord(local_owner);
-    let answer = header_locks::try_acquire_checkpoint(header, held, SharedOwnerRecord(owner), card);
-    left(header, acquired(answer, header, held))
+    let local = SharedOwnerRecord(local_owner);
+    let answer = header_locks::try_acquire_checkpoint(
+        header,
+        local,
+        SharedOwnerRecord(owner),
+        card,
+    );
+    left(header, acquired(answer, header, local))
 }
 
-// The core's answer, with the mode read from its number: refused if there is no such mode.
-fn writer_released(
-    mode: u32,
-    header: Header,
-    local_owner: SharedOwnerRecord,
-    owner: SharedOwnerRecord,
-) -> Release
-    ensures { λ r. ⌜ LockCall Writer (with-mode (mode-given mode) (λ given. release Writer given (owner .0))) header («local_owner» .0) (release-answer r) (release-header header r) (release-local («local_owner» .0) r) ⌝ }
-{
-    let Mode::Given(given) = c_numbers::mode_of(mode) else {
-        return Release::Refused(refusal::SETTINGS);
-    };
-    header_locks::release_writer(given, header, local_owner, owner)
-}
-
-fn checkpoint_released(
-    mode: u32,
-    header: Header,
-    local_owner: SharedOwnerRecord,
-    owner: SharedOwnerRecord,
-) -> Release
-    ensures { λ r. ⌜ LockCall Checkpoint (with-mode (mode-given mode) (λ given. release Checkpoint given (owner .0))) header («local_owner» .0) (release-answer r) (release-header header r) (release-local («local_owner» .0) r) ⌝ }
-{
-    let Mode::Given(given) = c_numbers::mode_of(mode) else {
-        return Release::Refused(refusal::SETTINGS);
-    };
-    header_locks::release_checkpoint(given, header, local_owner, owner)
-}
-
+// Refused if mode is no mode's number.
 pub fn release_writer(mode: u32, header: Header, local_owner: u64, owner: u64) -> LockLeft
     ensures { λ r. ⌜ LockReplied Writer (with-mode (mode-given mode) (λ given. release Writer given owner)) header «local_owner» (r .header) (r .reply) ⌝ }
 {
-    let held = SharedOwnerRecord(local_owner);
-    let answer = writer_released(mode, header, held, SharedOwnerRecord(owner));
-    left(header, released(answer, header, held))
+    let local = SharedOwnerRecord(local_owner);
+    let Mode::Given(given) = c_numbers::mode_of(mode) else {
+        return left(header, owners_of(refusal::SETTINGS, 0, local, header));
+    };
+    let answer = header_locks::release_writer(given, header, local, SharedOwnerRecord(owner));
+    left(header, released(answer, header, local))
 }
 
 pub fn release_checkpoint(mode: u32, header: Header, local_owner: u64, owner: u64) -> LockLeft
     ensures { λ r. ⌜ LockReplied Checkpoint (with-mode (mode-given mode) (λ given. release Checkpoint given owner)) header «local_owner» (r .header) (r .reply) ⌝ }
 {
-    let held = SharedOwnerRecord(local_owner);
-    let answer = checkpoint_released(mode, header, held, SharedOwnerRecord(owner));
-    left(header, released(answer, header, held))
+    let local = SharedOwnerRecord(local_owner);
+    let Mode::Given(given) = c_numbers::mode_of(mode) else {
+        return left(header, owners_of(refusal::SETTINGS, 0, local, header));
+    };
+    let answer = header_locks::release_checkpoint(given, header, local, SharedOwnerRecord(owner));
+    left(header, released(answer, header, local))
 }
