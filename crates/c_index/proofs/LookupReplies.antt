@@ -4,14 +4,11 @@ use mathlib.Core.List.{List}
 use Prim.Native.Nat.{ℕ}
 use Rattle.wal_types.specs.declared.Header.{Header}
 use Rattle.wal_types.specs.Memory.{Memory, Process}
-use Rattle.wal_types.specs.Call.{Call, Done}
-use Rattle.index_find.specs.declared.find.Found.{Found}
-use Rattle.index_find.specs.declared.find.Found.the-variants.{Frame, NoFrame, Refused as FindRefused}
-use Rattle.list_latest.specs.declared.List.{List as ListAnswer}
-use Rattle.list_latest.specs.declared.List.the-variants.{Pairs, Refused as ListRefused}
+use Rattle.wal_types.specs.Call.{Call, Answer, Done}
+use Rattle.list_latest.specs.declared.ListAnswer.{ListAnswer}
+use Rattle.list_latest.specs.declared.ListAnswer.the-variants.{Pairs, Refused as ListRefused}
 use Rattle.list_latest.specs.InnerResult.{Lists}
 use Rattle.index_find.specs.Index.{IndexCall, index-in}
-use Rattle.index_find.specs.Find.{found-answer}
 use Rattle.c_index_replies.specs.declared.lookup_reply.FindReply.{FindReply}
 use Rattle.c_index_replies.specs.declared.lookup_reply.ListReply.{ListReply}
 use Rattle.c_index_replies.specs.LookupReply.{find-reply, list-reply}
@@ -21,10 +18,8 @@ find-told-by : (r : FindReply) (z : Memory) (h : Header) (ps fs hs : List ℕ) (
 find-told-by r z h ps fs hs p q t = rw q t
 
 module _ (call : Call) (h : Header) (ps fs hs : List ℕ) where
-  pub find-told : (a : Found) → IndexCall call h ps fs hs (found-answer a) h ps fs hs → FindReplied call h ps fs hs (find-reply a)
-  find-told (Frame f) e z p = find-told-by _ z h _ _ _ p (e z p) (record { refusal-told = refl; found-told = refl; frame-told = refl; memory-left = refl; process-left = refl })
-  find-told NoFrame e z p = find-told-by _ z h _ _ _ p (e z p) (record { refusal-told = refl; found-told = refl; frame-told = refl; memory-left = refl; process-left = refl })
-  find-told (FindRefused n) e z p = find-told-by _ z h _ _ _ p (e z p) (record { refusal-told = refl; found-told = refl; frame-told = refl; memory-left = refl; process-left = refl })
+  pub find-told : (a : Answer) → IndexCall call h ps fs hs a h ps fs hs → FindReplied call h ps fs hs (find-reply a)
+  find-told a e z p = find-told-by _ z h _ _ _ p (e z p) (record { refusal-told = refl; found-told = refl; frame-told = refl; memory-left = refl; process-left = refl })
 
 list-told-by : (r : ListReply) (z : Memory) (h : Header) (ps fs hs : List ℕ) (p : Process) (op of np nf : List ℕ) {d e : Done} → d ≡ e → ListTold r z h ps fs hs p op of np nf e → ListTold r z h ps fs hs p op of np nf d
 list-told-by r z h ps fs hs p op of np nf q t = rw q t

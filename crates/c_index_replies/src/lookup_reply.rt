@@ -1,8 +1,9 @@
 // The answers of a lookup and of a list in numbers, and a watermark read from numbers.
-use index_find::find::Found;
+use index_find::find::FindAnswer;
 use index_find::find::Watermark;
-use list_latest::List;
+use list_latest::ListAnswer;
 ghost use mathlib.Core.Path.{_≡_};
+ghost use Rattle.index_find.specs.Find.{found-answer};
 ghost use Rattle.c_index_replies.specs.LookupReply.{find-reply, list-reply, watermark-given};
 
 // The answer of a lookup in numbers. found: 1 if there is a frame.
@@ -20,11 +21,11 @@ pub struct ListReply {
     pub count: u64,
 }
 
-pub fn looked_up(answer: Found) -> FindReply
-    ensures { λ r. ⌜ r ≡ find-reply answer ⌝ }
+pub fn looked_up(answer: FindAnswer) -> FindReply
+    ensures { λ r. ⌜ r ≡ find-reply (found-answer answer) ⌝ }
 {
-    let Found::Frame(frame) = answer else {
-        let Found::Refused(number) = answer else {
+    let FindAnswer::Frame(frame) = answer else {
+        let FindAnswer::Refused(number) = answer else {
             return FindReply {
                 refusal: 0,
                 found: 0,
@@ -44,15 +45,15 @@ pub fn looked_up(answer: Found) -> FindReply
     }
 }
 
-pub fn listed(answer: List) -> ListReply
+pub fn listed(answer: ListAnswer) -> ListReply
     ensures { λ r. ⌜ r ≡ list-reply answer ⌝ }
 {
     match answer {
-        List::Pairs(count) => ListReply {
+        ListAnswer::Pairs(count) => ListReply {
             refusal: 0,
             count: count as u64,
         },
-        List::Refused(number) => ListReply {
+        ListAnswer::Refused(number) => ListReply {
             refusal: number,
             count: 0,
         },

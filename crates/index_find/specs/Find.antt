@@ -4,7 +4,7 @@ use mathlib.Core.List.{List, []}
 use Prim.Native.Nat.{ℕ, zero, suc, _+_, _-_, _*_, _/_, _≤_, min}
 use lib.Dec.{leb, ltb}
 use lib.ListN.{getD}
-use Rattle.wal_types.specs.Settings.{within}
+use Rattle.wal_types.specs.Settings.{within, block-entries, entries-for, cells-for}
 use Rattle.wal_types.specs.Memory.{Memory}
 use Rattle.wal_types.specs.Call.{Call, Answer, refused, frame-found, none, does, unless}
 use Rattle.index_hash.specs.declared.Probe.{Probe}
@@ -14,8 +14,8 @@ use Rattle.index_find.specs.declared.find.Watermark.{Watermark}
 use Rattle.index_find.specs.declared.find.Watermark.the-variants.{UpTo, NoWatermark}
 use Rattle.index_find.specs.declared.find.Lookup.{Lookup}
 use Rattle.index_find.specs.declared.find.Lookup.the-variants.{Frame, NoFrame}
-use Rattle.index_find.specs.declared.find.Found.{Found}
-use Rattle.index_find.specs.declared.find.Found.the-variants.{Frame as FoundFrame, NoFrame as FoundNone, Refused}
+use Rattle.index_find.specs.declared.find.FindAnswer.{FindAnswer}
+use Rattle.index_find.specs.declared.find.FindAnswer.the-variants.{Frame as FoundFrame, NoFrame as FoundNone, Refused}
 use Rattle.index_find.specs.Index.{index-tests, block-cells-of, block-pages-of}
 
 -- The source's binary search for how many entries have a frame of at most `top`, as it is written: on frames that do not
@@ -34,11 +34,11 @@ visible frames len top = visible-from len frames top 0 len
 
 -- block k is probed for the page among those of the first n entries that it has
 abbrev pub probe-block : ℕ → ℕ → ℕ → List ℕ → List ℕ → Probe
-probe-block k page n pages hash = probe (block-cells-of k hash) (block-pages-of k pages) page (min (n - 4096 * k) 4096)
+probe-block k page n pages hash = probe (block-cells-of k hash) (block-pages-of k pages) page (min (n - entries-for k) block-entries)
 
 -- the frame of the entry found in block k, if it is within the bounds
 abbrev pub looked-up : ℕ → List ℕ → ℕ → ℕ → Probe → Lookup
-looked-up k frames low high (At i) = cond (within low high (getD frames (4096 * k + i) 0)) (Frame (getD frames (4096 * k + i) 0)) NoFrame
+looked-up k frames low high (At i) = cond (within low high (getD frames (entries-for k + i) 0)) (Frame (getD frames (entries-for k + i) 0)) NoFrame
 looked-up k frames low high Nothing = NoFrame
 
 abbrev pub else-look : Lookup → Lookup → Lookup
@@ -62,14 +62,14 @@ lower low NoWatermark = low
 
 -- blocks that n entries take: n / 4,096 rounded up
 abbrev pub blocks-for : ℕ → ℕ
-blocks-for n = (n + 4095) / 4096
+blocks-for n = (n + 4095) / block-entries
 
 -- the lent parts have the blocks of n entries
 pub record BlocksFit (n pages frames hash : ℕ) : Type 0 where
   pub blocks-most : blocks-for n ≤ 16
-  pub pages-fit : 4096 * blocks-for n ≤ pages
-  pub frames-fit : 4096 * blocks-for n ≤ frames
-  pub hash-fit : 8192 * blocks-for n ≤ hash
+  pub pages-fit : entries-for (blocks-for n) ≤ pages
+  pub frames-fit : entries-for (blocks-for n) ≤ frames
+  pub hash-fit : cells-for (blocks-for n) ≤ hash
 
 abbrev pub lookup-answer : Lookup → Answer
 lookup-answer (Frame f) = frame-found f
@@ -89,7 +89,7 @@ find-frame capacity b page low high w =
     unless (λ m p. index-tests capacity b m) (λ m. does (find-answer page low high w m) (λ z. []) m)
 
 -- What each case of the answer tells.
-abbrev pub found-answer : Found → Answer
+abbrev pub found-answer : FindAnswer → Answer
 found-answer (FoundFrame f) = frame-found f
 found-answer FoundNone = none
 found-answer (Refused n) = refused n

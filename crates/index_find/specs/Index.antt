@@ -6,10 +6,10 @@ use Prim.Native.Nat.{ℕ, zero, suc, _+_, _*_, _/_, _%_, _<_, _≤_}
 use lib.Dec.{ltb}
 use lib.ListN.{length, getD, take, drop}
 use Rattle.wal_types.specs.declared.Header.{Header}
-use Rattle.wal_types.specs.Settings.{capacity-in-limits, max-blocks-in-limits, entries-for, cells-for}
+use Rattle.wal_types.specs.Settings.{capacity-in-limits, max-blocks-in-limits, block-entries, block-cells, entries-for, cells-for}
 use Rattle.wal_types.specs.Memory.{Memory, Process, with-header, with-index}
 use Rattle.wal_types.specs.Store.{Store, to-hash, Piece, _then_}
-use Rattle.wal_types.specs.Refusal.{Test, _if_, settings, short-memory}
+use Rattle.wal_types.specs.Refusal.{Test, _if_, number, settings, short-memory}
 use Rattle.wal_types.specs.Call.{Call, Carried, Answer, after, done}
 use Rattle.index_hash.specs.declared.Cell.{Cell}
 use Rattle.index_hash.specs.declared.Cell.the-variants.{Empty, Full}
@@ -38,25 +38,25 @@ index-tests capacity b m =
 -- the number of the first of them, 0 if there is none
 abbrev pub index-refusal : ℕ → ℕ → Header → ℕ → ℕ → ℕ → ℕ
 index-refusal capacity b h pages frames hash =
-    cond (bad-settings capacity b h) 1 (cond (short-index b pages frames hash) 2 0)
+    cond (bad-settings capacity b h) (number settings) (cond (short-index b pages frames hash) (number short-memory) 0)
 
 -- Entry n is in block n / 4,096, at place n mod 4,096.
 abbrev pub block-of : ℕ → ℕ
-block-of n = n / 4096
+block-of n = n / block-entries
 
 abbrev pub place-of : ℕ → ℕ
-place-of n = n % 4096
+place-of n = n % block-entries
 
 -- the hash cells of block k, and its pages
 unfoldable pub block-cells-of : ℕ → List ℕ → List ℕ
-block-cells-of k hash = take 8192 (drop (8192 * k) hash)
+block-cells-of k hash = take block-cells (drop (cells-for k) hash)
 
 unfoldable pub block-pages-of : ℕ → List ℕ → List ℕ
-block-pages-of k pages = take 4096 (drop (4096 * k) pages)
+block-pages-of k pages = take block-entries (drop (entries-for k) pages)
 
 -- the hash with other cells for block k
 unfoldable pub with-block : ℕ → List ℕ → List ℕ → List ℕ
-with-block k cells hash = take (8192 * k) hash ++ (cells ++ drop 8192 (drop (8192 * k) hash))
+with-block k cells hash = take (cells-for k) hash ++ (cells ++ drop block-cells (drop (cells-for k) hash))
 
 -- Stores of 0 to so many cells from this one on.
 unfoldable pub zero-stores : ℕ → ℕ → List Store
@@ -65,11 +65,11 @@ zero-stores (suc left) cell = to-hash cell 0 ∷ zero-stores left (cell + 1)
 
 -- Block k's hash is cleared, cell by cell.
 abbrev pub clear-block : ℕ → Piece
-clear-block k m = zero-stores 8192 (8192 * k)
+clear-block k m = zero-stores block-cells (cells-for k)
 
 -- Block k's hash names the entry at a place in the cell found for it; in a full table nothing is stored.
 abbrev pub name-stores : ℕ → ℕ → Cell → List Store
-name-stores k place (Empty cell) = to-hash (8192 * k + cell) (place + 1) ∷ []
+name-stores k place (Empty cell) = to-hash (cells-for k + cell) (place + 1) ∷ []
 name-stores k place Full = []
 
 -- Entry n, of this page, is inserted into its block's hash.
@@ -86,7 +86,7 @@ pub record HasRoom (n pages frames hash : ℕ) : Type 0 where
   pub below-most : n < 65536
   pub page-room : n < pages
   pub frame-room : n < frames
-  pub hash-room : 8192 * (n / 4096) + 8192 ≤ hash
+  pub hash-room : cells-for (block-of n) + block-cells ≤ hash
 
 -- a memory with this header and index in it
 abbrev pub index-in : Memory → Header → List ℕ → List ℕ → List ℕ → Memory

@@ -1,5 +1,7 @@
 // find_frame: the latest frame of a page within the bounds.
 use crate::index;
+use crate::index::BLOCK_CELLS;
+use crate::index::BLOCK_ENTRIES;
 use index_hash::Probe;
 use wal_types::Header;
 ghost use mathlib.Core.Path.{_≡_};
@@ -39,7 +41,7 @@ pub enum Lookup {
 }
 
 // Nothing changes: the answer alone.
-pub enum Found {
+pub enum FindAnswer {
     Frame(u64),
     NoFrame,
     Refused(u32),
@@ -50,10 +52,10 @@ fn probe_block(pages: &[u64], hash: &[u16], k: usize, page_id: u64, visible_slot
     requires { ⌜ ((k < 16) × (8192 * k + 8192 ≤ length (now hash))) × (4096 * k + 4096 ≤ length (now pages)) ⌝ }
     ensures { λ r. ⌜ r ≡ probe-block k «page_id» «visible_slots» (now (pages .entry)) (now (hash .entry)) ⌝ }
 {
-    let a = 8192 * k;
-    let e = a + 8192;
-    let first = 4096 * k;
-    let last = first + 4096;
+    let a = BLOCK_CELLS * k;
+    let e = a + BLOCK_CELLS;
+    let first = BLOCK_ENTRIES * k;
+    let last = first + BLOCK_ENTRIES;
     let visible_entries = entries_of_block(visible_slots, first);
     index_hash::find_frame_in_block(&hash[a..e], &pages[first..last], page_id, visible_entries)
 }
@@ -65,8 +67,8 @@ fn entries_of_block(visible_slots: usize, first: usize) -> usize
     if visible_slots <= first {
         return 0;
     }
-    if 4096 <= visible_slots - first {
-        return 4096;
+    if BLOCK_ENTRIES <= visible_slots - first {
+        return BLOCK_ENTRIES;
     }
     visible_slots - first
 }
@@ -88,7 +90,7 @@ fn find_in_block(
     let Probe::At(local_entry) = probe_block(pages, hash, k, page_id, visible_slots) else {
         return Lookup::NoFrame;
     };
-    let slot = 4096 * k + local_entry;
+    let slot = BLOCK_ENTRIES * k + local_entry;
     let frame_id = frames[slot];
     if frame_id < min_frame {
         return Lookup::NoFrame;
@@ -112,7 +114,7 @@ fn find_in_blocks(
     requires { ⌜ BlocksFit «visible_slots» (length (now pages)) (length (now frames)) (length (now hash)) ⌝ }
     ensures { λ r. ⌜ r ≡ find-in (blocks-for «visible_slots») «visible_slots» (now (pages .entry)) (now (frames .entry)) (now (hash .entry)) «page_id» «min_frame» «max_frame» ⌝ }
 {
-    let mut k = (visible_slots + 4095) / 4096;
+    let mut k = (visible_slots + 4095) / BLOCK_ENTRIES;
     while 0 < k {
         k -= 1;
         let found = find_in_block(
@@ -163,7 +165,7 @@ pub fn find_frame(
     min_frame: u64,
     max_frame: u64,
     frame_watermark: Watermark,
-) -> Found
+) -> FindAnswer
     ensures { λ r. ⌜ IndexCall (find-frame capacity «max_blocks» «page_id» «min_frame» «max_frame» «frame_watermark») header (now (pages .entry)) (now (frames .entry)) (now (hash .entry)) (found-answer r) header (now (pages .entry)) (now (frames .entry)) (now (hash .entry)) ⌝ }
 {
     let refusal = index::index_refusal(
@@ -175,18 +177,18 @@ pub fn find_frame(
         hash.len(),
     );
     if refusal != 0 {
-        return Found::Refused(refusal);
+        return FindAnswer::Refused(refusal);
     }
     let upper = upper_frame(max_frame, frame_watermark);
     if upper < min_frame {
-        return Found::NoFrame;
+        return FindAnswer::NoFrame;
     }
     let lower = lower_frame(min_frame, frame_watermark);
     let len = header.frame_index_len as usize;
     let visible_slots = visible_frame_index_slots(frames, len, upper);
     let found = find_in_blocks(pages, frames, hash, page_id, visible_slots, lower, upper);
     let Lookup::Frame(frame_id) = found else {
-        return Found::NoFrame;
+        return FindAnswer::NoFrame;
     };
-    Found::Frame(frame_id)
+    FindAnswer::Frame(frame_id)
 }

@@ -1,11 +1,19 @@
 // What the calls on the index share: the refusals that all of them have, and one block's hash as a part of the whole.
 use index_hash::Cell;
+use wal_types::FRAME_INDEX_BLOCK_CAPACITY;
+use wal_types::FRAME_INDEX_BLOCK_HASH_SLOTS;
 use wal_types::Header;
+use wal_types::refusal;
 ghost use mathlib.Core.Path.{_≡_};
 ghost use Prim.Native.Nat.{_+_, _*_, _<_, _≤_};
 ghost use lib.ListN.{length, set};
 ghost use Rattle.index_hash.specs.Block.{cleared, empty-cell, built};
 ghost use Rattle.index_find.specs.Index.{bad-settings, short-index, index-refusal, block-cells-of, block-pages-of, with-block};
+
+// A block's entries and hash cells, as indexes.
+pub const BLOCK_ENTRIES: usize = FRAME_INDEX_BLOCK_CAPACITY as usize;
+
+pub const BLOCK_CELLS: usize = FRAME_INDEX_BLOCK_HASH_SLOTS as usize;
 
 fn bad_settings(capacity: u32, max_blocks: u32, header: Header) -> bool
     ensures { λ r. ⌜ r ≡ bad-settings capacity «max_blocks» header ⌝ }
@@ -28,21 +36,21 @@ fn bad_settings(capacity: u32, max_blocks: u32, header: Header) -> bool
     if max_blocks < header.frame_index_blocks {
         return true;
     }
-    4096 * header.frame_index_blocks < header.frame_index_len
+    FRAME_INDEX_BLOCK_CAPACITY * header.frame_index_blocks < header.frame_index_len
 }
 
-fn short_index(max_blocks: u32, pages: usize, frames: usize, hash: usize) -> bool
+fn short_index(max_blocks: u32, pages_len: usize, frames_len: usize, hash_len: usize) -> bool
     requires { ⌜ «max_blocks» ≤ 16 ⌝ }
-    ensures { λ r. ⌜ r ≡ short-index «max_blocks» pages frames hash ⌝ }
+    ensures { λ r. ⌜ r ≡ short-index «max_blocks» «pages_len» «frames_len» «hash_len» ⌝ }
 {
     let blocks = max_blocks as usize;
-    if pages < 4096 * blocks {
+    if pages_len < BLOCK_ENTRIES * blocks {
         return true;
     }
-    if frames < 4096 * blocks {
+    if frames_len < BLOCK_ENTRIES * blocks {
         return true;
     }
-    hash < 8192 * blocks
+    hash_len < BLOCK_CELLS * blocks
 }
 
 // The number of the refusal that every call on the index has, 0 if there is none.
@@ -50,17 +58,17 @@ pub fn index_refusal(
     capacity: u32,
     max_blocks: u32,
     header: Header,
-    pages: usize,
-    frames: usize,
-    hash: usize,
+    pages_len: usize,
+    frames_len: usize,
+    hash_len: usize,
 ) -> u32
-    ensures { λ r. ⌜ r ≡ index-refusal capacity «max_blocks» header pages frames hash ⌝ }
+    ensures { λ r. ⌜ r ≡ index-refusal capacity «max_blocks» header «pages_len» «frames_len» «hash_len» ⌝ }
 {
     if bad_settings(capacity, max_blocks, header) {
-        return 1;
+        return refusal::SETTINGS;
     }
-    if short_index(max_blocks, pages, frames, hash) {
-        return 2;
+    if short_index(max_blocks, pages_len, frames_len, hash_len) {
+        return refusal::SHORT_MEMORY;
     }
     0
 }
@@ -70,8 +78,8 @@ pub fn clear_block(hash: &mut [u16], k: usize)
     requires { ⌜ (k < 16) × (8192 * k + 8192 ≤ length (now hash)) ⌝ }
     ensures { λ _. ⌜ now (hash .exit) ≡ with-block k cleared (now (hash .entry)) ⌝ }
 {
-    let a = 8192 * k;
-    let e = a + 8192;
+    let a = BLOCK_CELLS * k;
+    let e = a + BLOCK_CELLS;
     index_hash::clear_frame_index_block_hash(&mut hash[a..e]);
 }
 
@@ -80,8 +88,8 @@ pub fn cell_in_block(hash: &[u16], k: usize, page_id: u64) -> Cell
     requires { ⌜ (k < 16) × (8192 * k + 8192 ≤ length (now hash)) ⌝ }
     ensures { λ r. ⌜ r ≡ empty-cell (block-cells-of k (now (hash .entry))) «page_id» ⌝ }
 {
-    let a = 8192 * k;
-    let e = a + 8192;
+    let a = BLOCK_CELLS * k;
+    let e = a + BLOCK_CELLS;
     index_hash::empty_cell(&hash[a..e], page_id)
 }
 
@@ -90,8 +98,8 @@ pub fn name_in_block(hash: &mut [u16], k: usize, cell: usize, local_index: usize
     requires { ⌜ ((k < 16) × (8192 * k + 8192 ≤ length (now hash))) × ((cell < 8192) × («local_index» < 4096)) ⌝ }
     ensures { λ _. ⌜ now (hash .exit) ≡ with-block k (set (block-cells-of k (now (hash .entry))) cell («local_index» + 1)) (now (hash .entry)) ⌝ }
 {
-    let a = 8192 * k;
-    let e = a + 8192;
+    let a = BLOCK_CELLS * k;
+    let e = a + BLOCK_CELLS;
     index_hash::name_entry(&mut hash[a..e], cell, local_index);
 }
 
@@ -100,9 +108,9 @@ pub fn rebuild_block(hash: &mut [u16], pages: &[u64], k: usize, entries: usize)
     requires { ⌜ ((k < 16) × (8192 * k + 8192 ≤ length (now hash))) × ((4096 * k + 4096 ≤ length (now pages)) × (entries ≤ 4096)) ⌝ }
     ensures { λ _. ⌜ now (hash .exit) ≡ with-block k (built (block-pages-of k (now (pages .entry))) entries) (now (hash .entry)) ⌝ }
 {
-    let a = 8192 * k;
-    let e = a + 8192;
-    let first = 4096 * k;
-    let last = first + 4096;
+    let a = BLOCK_CELLS * k;
+    let e = a + BLOCK_CELLS;
+    let first = BLOCK_ENTRIES * k;
+    let last = first + BLOCK_ENTRIES;
     index_hash::rebuild_frame_index_block_hash(&mut hash[a..e], &pages[first..last], entries);
 }

@@ -4,8 +4,10 @@ use index_end::cells::IndexCells;
 use index_end::place;
 use index_end::place::Place;
 use index_find::index;
+use index_find::index::BLOCK_ENTRIES;
 use index_hash::Cell;
 use wal_types::Header;
+use wal_types::refusal;
 ghost use mathlib.Core.Path.{_≡_};
 ghost use Prim.Native.Nat.{_+_, _/_, _%_, _<_};
 ghost use lib.ListN.{length, set};
@@ -48,7 +50,7 @@ fn enter_first(
     requires { ⌜ HasRoom n (length (now pages)) (length (now frames)) (length (now hash)) ⌝ }
     ensures { λ _. ⌜ (now (pages .exit) ≡ set (now (pages .entry)) n «page_id») × ((now (frames .exit) ≡ set (now (frames .entry)) n «frame_id») × (now (hash .exit) ≡ with-block (n / 4096) (inserted cleared 0 «page_id») (now (hash .entry)))) ⌝ }
 {
-    let k = n / 4096;
+    let k = n / BLOCK_ENTRIES;
     index::clear_block(hash, k);
     pages[n] = page_id;
     frames[n] = frame_id;
@@ -71,8 +73,8 @@ fn enter_next(
 {
     pages[n] = page_id;
     frames[n] = frame_id;
-    let k = n / 4096;
-    let local_index = n % 4096;
+    let k = n / BLOCK_ENTRIES;
+    let local_index = n % BLOCK_ENTRIES;
     index::name_in_block(hash, k, cell, local_index);
 }
 
@@ -81,25 +83,25 @@ fn plan_record(
     capacity: u32,
     max_blocks: u32,
     header: Header,
-    pages: usize,
+    pages_len: usize,
     frames: &[u64],
     hash: &[u16],
     page_id: u64,
     frame_id: u64,
     grow: bool,
 ) -> Plan
-    ensures { λ r. ⌜ PlannedRecord capacity «max_blocks» «page_id» «frame_id» grow header pages (now (frames .entry)) (now (hash .entry)) r ⌝ }
+    ensures { λ r. ⌜ PlannedRecord capacity «max_blocks» «page_id» «frame_id» grow header «pages_len» (now (frames .entry)) (now (hash .entry)) r ⌝ }
 {
-    let refusal = index::index_refusal(
+    let number = index::index_refusal(
         capacity,
         max_blocks,
         header,
-        pages,
+        pages_len,
         frames.len(),
         hash.len(),
     );
-    if refusal != 0 {
-        return Plan::Refused(refusal);
+    if number != 0 {
+        return Plan::Refused(number);
     }
     let start = place::started_cells(header, frame_id);
     let Place::AtEnd(grown) = place::place_entry(capacity, max_blocks, start, grow) else {
@@ -107,14 +109,14 @@ fn plan_record(
     };
     let n = grown.frame_index_len as usize;
     if place::is_out_of_order(frames, n, frame_id) {
-        return Plan::Refused(3);
+        return Plan::Refused(refusal::FRAME_ORDER);
     }
-    if n % 4096 == 0 {
+    if n % BLOCK_ENTRIES == 0 {
         return Plan::First(grown);
     }
-    let k = n / 4096;
+    let k = n / BLOCK_ENTRIES;
     let Cell::Empty(cell) = index::cell_in_block(hash, k, page_id) else {
-        return Plan::Refused(4);
+        return Plan::Refused(refusal::HASH_FULL);
     };
     Plan::Next(grown, cell)
 }

@@ -3,6 +3,7 @@ use index_end::cells;
 use index_end::cells::IndexCells;
 use index_end::kept;
 use index_find::index;
+use index_find::index::BLOCK_ENTRIES;
 use wal_types::Header;
 ghost use Rattle.index_end.specs.Cells.{with-cells};
 ghost use Rattle.index_find.specs.Index.{IndexCall};
@@ -59,11 +60,11 @@ pub fn rollback_frames(
         answer: RollbackAnswer::Kept(n as u32),
         cells: kept::shortened(cells, n as u32),
     };
-    let local_index = n % 4096;
+    let local_index = n % BLOCK_ENTRIES;
     if local_index == 0 {
         return next;
     }
-    let k = n / 4096;
+    let k = n / BLOCK_ENTRIES;
     index::rebuild_block(hash, pages, k, local_index);
     next
 }

@@ -6,6 +6,8 @@
 // never made, lets an entry through that the choice drops after the sort; it cannot leave a page out. That is why the contract
 // says no more than each page's first. An exact table would need room for 65,536 pages, cleared at every call. Without the
 // guesses a list over 65,536 entries of 100 pages took three times as long; where all pages differ, as long as with them.
+use index_find::index::BLOCK_CELLS;
+use index_find::index::BLOCK_ENTRIES;
 use list_sort::cell_of;
 ghost use mathlib.Core.Path.{_≡_};
 ghost use mathlib.Core.Bool.{true};
@@ -49,7 +51,7 @@ fn mark_run(cells: &[u16], from: usize, marks: &mut [u8])
     while i < 8usize {
         let v = wide(cells[from + i]);
         i += 1;
-        if v <= 4096 {
+        if v <= BLOCK_ENTRIES {
             marks[v] = 1;
         }
     }
@@ -62,7 +64,7 @@ fn mark_cells(cells: &[u16], marks: &mut [u8])
     ensures { λ _. ⌜ ((v : ℕ) → 0 < v → v < 4097 → eqb (getD (now (marks .exit)) v 0) 1 ≡ has-cell (now (cells .entry)) v) ⌝ }
 {
     let mut next = 0;
-    while next < 8192usize {
+    while next < BLOCK_CELLS {
         let from = next;
         next += 8;
         if !empty_run(cells, from) {
@@ -106,10 +108,10 @@ fn gather_block(
     ensures { λ r. ⌜ (r + 4096 * k ≤ before + end) × ((page : ℕ) → head-of (now (pages .entry)) page (take r (now (list .exit)) ++ down (now (hash .entry)) (4096 * k)) ≡ head-of (now (pages .entry)) page (take before (now (list .entry)) ++ down (now (hash .entry)) end)) ⌝ }
 {
     let mut marks = [0u8; 4097];
-    let a = 8192 * k;
-    let e = a + 8192;
+    let a = BLOCK_CELLS * k;
+    let e = a + BLOCK_CELLS;
     mark_cells(&hash[a..e], &mut marks);
-    let first = 4096 * k;
+    let first = BLOCK_ENTRIES * k;
     let mut count = before;
     let mut n = end;
     while first < n {
@@ -137,9 +139,9 @@ pub fn gather(pages: &[u64], hash: &[u16], visible: usize, list: &mut [u16]) -> 
     let mut count = 0;
     let mut end = visible;
     while 0 < end {
-        let k = (end - 1) / 4096;
+        let k = (end - 1) / BLOCK_ENTRIES;
         count = gather_block(pages, hash, k, end, list, count, &mut guesses);
-        end = 4096 * k;
+        end = BLOCK_ENTRIES * k;
     }
     count
 }

@@ -16,8 +16,8 @@ use Rattle.wal_types.specs.Call.{Pair, pair, Call, Outcome, Done, accepted-or, 
 use Rattle.index_find.specs.Index.{bad-settings, short-index, index-refusal, index-in}
 use Rattle.index_find.specs.Find.{visible}
 use Rattle.index_find.proofs.Settings.{good-settings, long-enough}
-use Rattle.list_latest.specs.declared.List.{List as ListAnswer}
-use Rattle.list_latest.specs.declared.List.the-variants.{Pairs, Refused}
+use Rattle.list_latest.specs.declared.ListAnswer.{ListAnswer}
+use Rattle.list_latest.specs.declared.ListAnswer.the-variants.{Pairs, Refused}
 use Rattle.list_choose.specs.Chosen.{in-bounds}
 use Rattle.list_latest.specs.Latest.{latest, iter-latest-frames}
 use Rattle.list_latest.specs.InnerResult.{IsListed, IsRefused, Lists}

@@ -5,8 +5,8 @@ use Prim.Native.Nat.{ℕ}
 use lib.ListN.{length, drop}
 use Rattle.wal_types.specs.Memory.{Memory, Process}
 use Rattle.wal_types.specs.Call.{Pair, Call, listed, refused, done, after}
-use Rattle.list_latest.specs.declared.List.{List as ListAnswer}
-use Rattle.list_latest.specs.declared.List.the-variants.{Pairs, Refused}
+use Rattle.list_latest.specs.declared.ListAnswer.{ListAnswer}
+use Rattle.list_latest.specs.declared.ListAnswer.the-variants.{Pairs, Refused}
 
 -- Accepted: the call answers these pairs and changes nothing; their pages and frames are in the first output cells, and the
 -- cells past them are as they were.

@@ -5,8 +5,8 @@ use mathlib.Core.Bool.{true, _||_}
 use Prim.Native.Nat.{ℕ, _≤_}
 use lib.Dec.{ltb}
 use lib.ListN.{length, getD, drop}
-use Rattle.list_latest.specs.declared.List.{List as ListAnswer}
-use Rattle.list_latest.specs.declared.List.the-variants.{Pairs, Refused}
+use Rattle.list_latest.specs.declared.ListAnswer.{ListAnswer}
+use Rattle.list_latest.specs.declared.ListAnswer.the-variants.{Pairs, Refused}
 
 -- The pairs of all entries are in the first output cells, and the cells past them are as they were.
 pub record Written (pages frames entries : List ℕ) (n : ℕ) (old-pages old-frames new-pages new-frames : List ℕ) : Type 0 where

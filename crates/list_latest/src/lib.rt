@@ -1,9 +1,11 @@
 // iter_latest_frames: each page's latest entry with a frame of at most max, listed if its frame is at least min, by rising
 // page. The entries that the hash names are gathered from the last down, sorted by page, and the first of each page is taken.
 // All of it is counted before the first output cell is written: a list that is refused for too few of them (5) has written none.
+use index_find::index::BLOCK_ENTRIES;
 use list_choose::choose;
 use list_gather::gather;
 use wal_types::Header;
+use wal_types::refusal;
 ghost use mathlib.Core.Path.{_≡_};
 ghost use Prim.Native.Nat.{_+_, _*_, _/_, _≤_};
 ghost use lib.ListN.{length, take};
@@ -14,7 +16,7 @@ ghost use Rattle.index_find.specs.Index.{index-in};
 ghost use Rattle.list_latest.specs.InnerResult.{Lists};
 ghost use Rattle.list_latest.specs.InnerWritten.{Writes};
 
-pub enum List {
+pub enum ListAnswer {
     // As many pairs, in the first output cells.
     Pairs(usize),
     // Turned away, with the refusal's number.
@@ -59,7 +61,7 @@ fn list_in(
     out_frames: &mut [u64],
     list: &mut [u16],
     spare: &mut [u16],
-) -> List
+) -> ListAnswer
     requires { ⌜ ((visible ≤ 65536) × (8192 * ((visible + 4095) / 4096) ≤ length (now hash))) × ((visible ≤ length (now list)) × (visible ≤ length (now spare))) ⌝ }
     ensures { λ r. ⌜ Writes (now (pages .entry)) (now (frames .entry)) (in-bounds (now (frames .entry)) «min_frame» «max_frame» (latest (now (pages .entry)) (now (hash .entry)) visible)) r (now («out_pages» .entry)) (now («out_frames» .entry)) (now («out_pages» .exit)) (now («out_frames» .exit)) ⌝ }
 {
@@ -74,13 +76,13 @@ fn list_in(
         spare,
     );
     if out_pages.len() < count {
-        return List::Refused(5);
+        return ListAnswer::Refused(refusal::SHORT_LIST);
     }
     if out_frames.len() < count {
-        return List::Refused(5);
+        return ListAnswer::Refused(refusal::SHORT_LIST);
     }
     choose::write_pairs(pages, frames, &spare[..count], out_pages, out_frames);
-    List::Pairs(count)
+    ListAnswer::Pairs(count)
 }
 
 // With room for one block's entries. An array is cleared where it is made, and room for every block's entries is 262,144 bytes:
@@ -94,12 +96,12 @@ fn list_small(
     max_frame: u64,
     out_pages: &mut [u64],
     out_frames: &mut [u64],
-) -> List
+) -> ListAnswer
     requires { ⌜ (visible ≤ 4096) × (8192 * ((visible + 4095) / 4096) ≤ length (now hash)) ⌝ }
     ensures { λ r. ⌜ Writes (now (pages .entry)) (now (frames .entry)) (in-bounds (now (frames .entry)) «min_frame» «max_frame» (latest (now (pages .entry)) (now (hash .entry)) visible)) r (now («out_pages» .entry)) (now («out_frames» .entry)) (now («out_pages» .exit)) (now («out_frames» .exit)) ⌝ }
 {
-    let mut list = [0u16; 4096];
-    let mut spare = [0u16; 4096];
+    let mut list = [0u16; BLOCK_ENTRIES];
+    let mut spare = [0u16; BLOCK_ENTRIES];
     list_in(
         pages,
         frames,
@@ -124,7 +126,7 @@ fn list_large(
     max_frame: u64,
     out_pages: &mut [u64],
     out_frames: &mut [u64],
-) -> List
+) -> ListAnswer
     requires { ⌜ (visible ≤ 65536) × (8192 * ((visible + 4095) / 4096) ≤ length (now hash)) ⌝ }
     ensures { λ r. ⌜ Writes (now (pages .entry)) (now (frames .entry)) (in-bounds (now (frames .entry)) «min_frame» «max_frame» (latest (now (pages .entry)) (now (hash .entry)) visible)) r (now («out_pages» .entry)) (now («out_frames» .entry)) (now («out_pages» .exit)) (now («out_frames» .exit)) ⌝ }
 {
@@ -156,10 +158,10 @@ pub fn iter_latest_frames(
     max_frame: u64,
     out_pages: &mut [u64],
     out_frames: &mut [u64],
-) -> List
+) -> ListAnswer
     ensures { λ r. ⌜ ((z : Memory) (p : Process) → Lists (iter-latest-frames capacity «max_blocks» «min_frame» «max_frame» (length (now («out_pages» .entry))) (length (now («out_frames» .entry)))) (index-in z header (now (pages .entry)) (now (frames .entry)) (now (hash .entry))) p r (now («out_pages» .entry)) (now («out_frames» .entry)) (now («out_pages» .exit)) (now («out_frames» .exit))) ⌝ }
 {
-    let refusal = index_find::index::index_refusal(
+    let number = index_find::index::index_refusal(
         capacity,
         max_blocks,
         header,
@@ -167,12 +169,12 @@ pub fn iter_latest_frames(
         frames.len(),
         hash.len(),
     );
-    if refusal != 0 {
-        return List::Refused(refusal);
+    if number != 0 {
+        return ListAnswer::Refused(number);
     }
     let len = header.frame_index_len as usize;
     let visible = index_find::find::visible_frame_index_slots(frames, len, max_frame);
-    if visible <= 4096 {
+    if visible <= BLOCK_ENTRIES {
         return list_small(
             pages,
             frames,

@@ -2,13 +2,13 @@
 use crate::output;
 use crate::state;
 use crate::state::State;
-use index_find::find::Found;
+use index_find::find::FindAnswer;
 use index_find::find::Watermark;
 use index_record::record::RecordAnswer;
 use index_record::record::Recorded;
 use index_record::rollback::RollbackAnswer;
 use index_record::rollback::RolledBack;
-use list_latest::List;
+use list_latest::ListAnswer;
 use program_columns::answer::Answer;
 ghost use Prim.Native.Nat.{_≤_};
 ghost use lib.ListN.{length};
@@ -106,13 +106,13 @@ pub fn rollback(
 }
 
 // F: the frame, or blanks for none.
-fn find_answer(state: State, out: &mut [u8], found: Found) -> State
+fn find_answer(state: State, out: &mut [u8], found: FindAnswer) -> State
     requires { ⌜ 26 ≤ length (now out) ⌝ }
 {
     match found {
-        Found::Frame(frame) => accepted(state, out, b'F', frame),
-        Found::NoFrame => output::answer(state, out, b'F', 0, Answer::Blank),
-        Found::Refused(number) => refused(state, out, b'F', number),
+        FindAnswer::Frame(frame) => accepted(state, out, b'F', frame),
+        FindAnswer::NoFrame => output::answer(state, out, b'F', 0, Answer::Blank),
+        FindAnswer::Refused(number) => refused(state, out, b'F', number),
     }
 }
 
@@ -162,11 +162,17 @@ fn pairs(state: State, out: &mut [u8], pages: &[u64], frames: &[u64], count: usi
 }
 
 // L: the count, and then the pairs.
-fn list_answer(state: State, out: &mut [u8], listed: List, pages: &[u64], frames: &[u64]) -> State
+fn list_answer(
+    state: State,
+    out: &mut [u8],
+    listed: ListAnswer,
+    pages: &[u64],
+    frames: &[u64],
+) -> State
     requires { ⌜ 26 ≤ length (now out) ⌝ }
 {
     match listed {
-        List::Pairs(count) => {
+        ListAnswer::Pairs(count) => {
             pairs(
                 accepted(state, out, b'L', count as u64),
                 out,
@@ -175,7 +181,7 @@ fn list_answer(state: State, out: &mut [u8], listed: List, pages: &[u64], frames
                 count,
             )
         }
-        List::Refused(number) => refused(state, out, b'L', number),
+        ListAnswer::Refused(number) => refused(state, out, b'L', number),
     }
 }
 

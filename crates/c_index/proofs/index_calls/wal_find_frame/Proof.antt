@@ -1,4 +1,4 @@
-use Rattle.index_find.specs.Find.{find-frame}
+use Rattle.index_find.specs.Find.{find-frame, found-answer}
 use Rattle.c_index.proofs.LookupReplies.{find-told}
 use borrow.Author.Needs.{needs}
 use Rattle.c_index.proofs.index_calls.wal_find_frame.Statement.{statement}
@@ -16,7 +16,7 @@ looked-up-requires c κs = search needs
 returns : tie.Need-returns
 returns c =
     let a = c .before .before .before .before .before .before .args in
-    rw (c .looked-up .ensures, ← c .before .before .watermark-of .ensures) (find-told (find-frame (a .capacity) (a .max-blocks) (a .page-id) (a .min-frame) (a .max-frame) (c .before .before .watermark-of .result)) _ _ _ _ (c .before .find-frame .result) (c .before .find-frame .ensures))
+    rw (c .looked-up .ensures, ← c .before .before .watermark-of .ensures) (find-told (find-frame (a .capacity) (a .max-blocks) (a .page-id) (a .min-frame) (a .max-frame) (c .before .before .watermark-of .result)) _ _ _ _ (found-answer (c .before .find-frame .result)) (c .before .find-frame .ensures))
 
 pub wal-find-frame-spec : {M : Type 1} → statement M
 wal-find-frame-spec =

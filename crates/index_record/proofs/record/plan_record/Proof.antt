@@ -17,7 +17,7 @@ started-cells-requires c κs = search needs
 place-entry-requires : tie.Need-place-entry-requires
 place-entry-requires c κs =
     let a = c .before .before .before .before .before .args in
-    place-asks (a .capacity) (a .max-blocks) (a .page-id) (a .frame-id) (a .grow) (a .header) (a .pages) (a .frames .now) (a .hash .now) (sym (c .before .before .index-refusal .ensures) ∙ c .before .if1 .left) _ (c .started-cells .ensures)
+    place-asks (a .capacity) (a .max-blocks) (a .page-id) (a .frame-id) (a .grow) (a .header) (a .pages-len) (a .frames .now) (a .hash .now) (sym (c .before .before .index-refusal .ensures) ∙ c .before .if1 .left) _ (c .started-cells .ensures)
 
 enum-known-grown : tie.Need-enum-known-grown
 enum-known-grown c = search needs
@@ -37,7 +37,7 @@ cast-n c = search needs
 is-out-of-order-requires : tie.Need-is-out-of-order-requires
 is-out-of-order-requires c κs =
     let a = c .before .before .before .before .before .before .before .before .before .before .args in
-    let r = room (a .capacity) (a .max-blocks) (a .page-id) (a .frame-id) (a .grow) (a .header) (a .pages) (a .frames .now) (a .hash .now) (sym (c .before .before .before .before .before .before .before .index-refusal .ensures) ∙ c .before .before .before .before .before .before .if1 .left) _ _ _ (c .before .before .before .before .before .started-cells .ensures) (c .before .before .before .before .place-entry .ensures) (c .before .before .grown .given .1) in
+    let r = room (a .capacity) (a .max-blocks) (a .page-id) (a .frame-id) (a .grow) (a .header) (a .pages-len) (a .frames .now) (a .hash .now) (sym (c .before .before .before .before .before .before .before .index-refusal .ensures) ∙ c .before .before .before .before .before .before .if1 .left) _ _ _ (c .before .before .before .before .before .started-cells .ensures) (c .before .before .before .before .place-entry .ensures) (c .before .before .grown .given .1) in
     omega arith
 
 returns-3 : tie.Need-returns-3
@@ -49,7 +49,7 @@ returns-4 c = first-it _ _ _ _ _ _ _ _ _ (sym (c .before .before .before .before
 cell-in-block-requires : tie.Need-cell-in-block-requires
 cell-in-block-requires c κs =
     let a = c .before .before .before .before .before .before .before .before .before .before .before .before .before .args in
-    let r = room (a .capacity) (a .max-blocks) (a .page-id) (a .frame-id) (a .grow) (a .header) (a .pages) (a .frames .now) (a .hash .now) (sym (c .before .before .before .before .before .before .before .before .before .before .index-refusal .ensures) ∙ c .before .before .before .before .before .before .before .before .before .if1 .left) _ _ _ (c .before .before .before .before .before .before .before .before .started-cells .ensures) (c .before .before .before .before .before .before .before .place-entry .ensures) (c .before .before .before .before .before .grown .given .1) in
+    let r = room (a .capacity) (a .max-blocks) (a .page-id) (a .frame-id) (a .grow) (a .header) (a .pages-len) (a .frames .now) (a .hash .now) (sym (c .before .before .before .before .before .before .before .before .before .before .index-refusal .ensures) ∙ c .before .before .before .before .before .before .before .before .before .if1 .left) _ _ _ (c .before .before .before .before .before .before .before .before .started-cells .ensures) (c .before .before .before .before .before .before .before .place-entry .ensures) (c .before .before .before .before .before .grown .given .1) in
     (omega arith, r .hash-room)
 
 enum-known-cell : tie.Need-enum-known-cell
