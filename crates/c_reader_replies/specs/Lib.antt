@@ -1,2 +1,3 @@
 -- The reader calls' replies.
 pub mod ReaderReply
+pub mod InnerStep

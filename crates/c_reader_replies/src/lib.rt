@@ -7,8 +7,12 @@ use reader_moves::update::Release;
 use reader_moves::update::Update;
 use reader_register::register::Register;
 use reader_shared::shared::Share;
+use reader_shared::shared::SharePlan;
+use reader_shared::shared::UnsharePlan;
 use wal_types::SharedOwnerRecord;
+use wal_types::SharedReadMark;
 use wal_types::SharedWalOwnershipMode;
+use wal_types::refusal;
 ghost use mathlib.Core.Path.{_≡_};
 ghost use Rattle.wal_types.specs.Call.{slot-taken};
 ghost use Rattle.reader_register.specs.Register.{register-answer};
@@ -18,6 +22,7 @@ ghost use Rattle.reader_limit.specs.Limit.{limit-answer};
 ghost use Rattle.reader_shared.specs.Shared.{share-answer};
 ghost use Rattle.c_numbers.specs.Reply.{refusal-number};
 ghost use Rattle.c_numbers.specs.Mode.{mode-given};
+ghost use Rattle.c_reader_replies.specs.InnerStep.{shares-step, shares-unknown, unshares-step, unshares-unknown};
 ghost use Rattle.c_reader_replies.specs.ReaderReply.{settings-given, no-slot, reader-reply, no-floor, floor-reply, db-file-reply, limit-reply};
 
 // The answer of a registration or a move in numbers. refusal: 0, or the number of the refusal. taken: 1 if a slot is held,
@@ -51,6 +56,20 @@ pub struct DbFileReply {
 pub struct LimitReply {
     pub refusal: u32,
     pub limit: u64,
+}
+
+// What a shared registration stores in the registry, a record in its place, past the end for none; and its reply.
+pub struct ShareStep {
+    pub place: usize,
+    pub item: SharedReadMark,
+    pub reply: ReaderReply,
+}
+
+// The same of a shared release. refusal is 0 or the number of the refusal.
+pub struct UnshareStep {
+    pub place: usize,
+    pub item: SharedReadMark,
+    pub refusal: u32,
 }
 
 // The number of slots and the lock mode.
@@ -137,6 +156,58 @@ pub fn release_told(answer: Release) -> u32
     match answer {
         Release::Released => 0,
         Release::Refused(number) => number,
+    }
+}
+
+// A shared registration's plan with its answer in numbers.
+pub fn share_step(plan: SharePlan) -> ShareStep
+    ensures { λ r. ⌜ r ≡ shares-step plan ⌝ }
+{
+    let place = plan.place;
+    let item = plan.item;
+    let answer = plan.answer;
+    let reply = share_told(answer);
+    ShareStep {
+        place: place,
+        item: item,
+        reply: reply,
+    }
+}
+
+// A shared registration by an unknown lock mode stores nothing. item is any record.
+pub fn share_unknown(records: usize, item: SharedReadMark) -> ShareStep
+    ensures { λ r. ⌜ r ≡ shares-unknown records item ⌝ }
+{
+    let reply = without_slot(refusal::SETTINGS);
+    ShareStep {
+        place: records,
+        item: item,
+        reply: reply,
+    }
+}
+
+// The same of a shared release.
+pub fn unshare_step(plan: UnsharePlan) -> UnshareStep
+    ensures { λ r. ⌜ r ≡ unshares-step plan ⌝ }
+{
+    let place = plan.place;
+    let item = plan.item;
+    let answer = plan.answer;
+    let told = release_told(answer);
+    UnshareStep {
+        place: place,
+        item: item,
+        refusal: told,
+    }
+}
+
+pub fn unshare_unknown(records: usize, item: SharedReadMark) -> UnshareStep
+    ensures { λ r. ⌜ r ≡ unshares-unknown records item ⌝ }
+{
+    UnshareStep {
+        place: records,
+        item: item,
+        refusal: refusal::SETTINGS,
     }
 }
 

@@ -1,24 +1,37 @@
 -- The reply of a reader call tells what the call's contract says. Assumes nothing.
-use mathlib.Core.Path.{_≡_, refl, _∙_}
+use mathlib.Core.Path.{_≡_, refl, sym, _∙_}
+use mathlib.Core.Bool.{Bool}
 use mathlib.Core.List.{List}
-use Prim.Native.Nat.{ℕ}
+use Prim.Native.Nat.{ℕ, min}
+use native.Mathlib.Omega.{arith}
+use lib.ListN.{length, set}
+use lib.Seq.{set-out}
 use Rattle.wal_types.specs.declared.SharedReadMark.{SharedReadMark}
 use Rattle.wal_types.specs.declared.SharedWalOwnershipMode.{SharedWalOwnershipMode}
 use Rattle.wal_types.specs.Memory.{Memory, Process}
-use Rattle.wal_types.specs.Call.{Call, Answer, Done, refusal, after, done}
-use Rattle.reader_slots.specs.Slots.{ReaderCall}
+use Rattle.wal_types.specs.Call.{Call, Answer, Done, refused, refusal, after, done}
+use Rattle.reader_slots.specs.Slots.{in-registry, ReaderCall}
 use Rattle.reader_register.specs.Register.{register-reader}
-use Rattle.reader_moves.specs.Update.{unregister-reader}
+use Rattle.reader_moves.specs.Update.{release-answer, MoveCall, ReleaseCall}
 use Rattle.reader_floor.specs.Floor.{min-active-reader-frame, has-active-db-file-reader}
 use Rattle.reader_limit.specs.Limit.{copy-back-limit, LimitCall}
-use Rattle.reader_shared.specs.Shared.{register-reader-for-snapshot, unregister-reader-for-snapshot, SharedCall}
-use Rattle.registry_calls.specs.InnerDirect.{DirectMove}
+use Rattle.reader_marks.specs.declared.Seen.{Seen}
+use Rattle.reader_marks.specs.InnerScan.{seen-of}
+use Rattle.reader_shared.specs.declared.shared.SharePlan.{SharePlan}
+use Rattle.reader_shared.specs.declared.shared.UnsharePlan.{UnsharePlan}
+use Rattle.reader_shared.specs.Shared.{share-answer, registry-in}
+use Rattle.reader_shared.specs.Inner.{PlanCall, PlanCarried}
 use Rattle.c_numbers.specs.declared.Mode.{Mode}
 use Rattle.c_numbers.specs.declared.Mode.the-variants.{Given, Unknown}
 use Rattle.c_reader_replies.specs.declared.Settings.{Settings}
 use Rattle.c_numbers.specs.Mode.{mode-given, with-mode}
-use Rattle.c_reader_replies.specs.ReaderReply.{settings-given}
+use Rattle.c_numbers.specs.Reply.{refusal-number}
+use Rattle.c_reader_replies.specs.declared.ShareStep.{ShareStep}
+use Rattle.c_reader_replies.specs.declared.UnshareStep.{UnshareStep}
+use Rattle.c_reader_replies.specs.ReaderReply.{settings-given, reader-reply}
+use Rattle.c_reader_replies.specs.InnerStep.{shares-step, shares-unknown, unshares-step, unshares-unknown}
 use Rattle.c_readers.specs.ReaderReplied.{Told, SlotsReplied, RegistryReplied, MoveReplied, LimitReplied}
+use Rattle.c_readers.specs.InnerSteps.{MoveStep, ReleaseStep, PlanStep}
 
 -- Of 0 slots the call is refused with 1.
 abbrev pub NeedsSlots : (ℕ → SharedWalOwnershipMode → Call) → Type 0
@@ -40,18 +53,6 @@ pub limit-needs-slots : (bytes : List ℕ) → NeedsSlots (λ n mode. copy-back-
 unfolding copy-back-limit
 limit-needs-slots bytes mode m p = refl
 
-pub release-needs-slots : (slot owner : ℕ) → NeedsSlots (λ n mode. unregister-reader n mode slot owner)
-unfolding unregister-reader
-release-needs-slots slot owner mode m p = refl
-
-pub share-needs-slots : (owner mark : ℕ) (bytes : List ℕ) → NeedsSlots (λ n mode. register-reader-for-snapshot n mode owner mark bytes)
-unfolding register-reader-for-snapshot
-share-needs-slots owner mark bytes mode m p = refl
-
-pub unshare-needs-slots : (mark slot owner : ℕ) → NeedsSlots (λ n mode. unregister-reader-for-snapshot n mode mark slot owner)
-unfolding unregister-reader-for-snapshot
-unshare-needs-slots mark slot owner mode m p = refl
-
 -- A reply tells an answer of the outcome that has it.
 pub told-by : {R : Type 0} (reply-of : Answer → R) (r : R) (a : Answer) (m : Memory) (p : Process) (d : Done) → r ≡ reply-of a → d ≡ done a m p → Told reply-of r m p d
 told-by reply-of r a m p d er ed = rw ed (record { reply-told = er; memory-left = refl; process-left = refl })
@@ -72,8 +73,55 @@ module _ {R : Type 0} (reply-of : Answer → R) (call : ℕ → SharedWalOwnersh
     pub limit-told : (published : ℕ) (b f o l b′ f′ o′ : List ℕ) → LimitCall (call (s .n) (s .mode)) published b f o l a b′ f′ o′ → LimitReplied reply-of (with-mode (mode-given mode) (call n)) published b f o l r b′ f′ o′
     limit-told published b f o l b′ f′ o′ e z p at = told-of _ _ _ _ (e z p at)
 
-    pub registry-told : (b f o l : List ℕ) (g : List SharedReadMark) (b′ f′ o′ l′ : List ℕ) (g′ : List SharedReadMark) → SharedCall (call (s .n) (s .mode)) b f o l g a b′ f′ o′ l′ g′ → RegistryReplied reply-of (with-mode (mode-given mode) (call n)) b f o l g r b′ f′ o′ l′ g′
-    registry-told b f o l g b′ f′ o′ l′ g′ e z p = told-of _ _ _ _ (e z p)
+-- a step with its mode, by what the core promises
+module _ {R : Type 0} (reply-of : Answer → R) (mode : ℕ) (call : SharedWalOwnershipMode → Call) (n records : ℕ) where
+  module _ (given : Mode) (read : given ≡ mode-given mode) where
+    module _ (k : SharedWalOwnershipMode) (known : given ≡ Given k) (a : Answer) (r : R) (told : r ≡ reply-of a) where
+      pub release-step : (slot : ℕ) (shared : Bool) (b f o l b′ f′ o′ l′ : List ℕ) → ReleaseCall n slot shared records (call k) b f o l a b′ f′ o′ l′ → ReleaseStep reply-of n slot shared records (with-mode (mode-given mode) call) b f o l r b′ f′ o′ l′
+      unfolding ReleaseStep
+      release-step slot shared b f o l b′ f′ o′ l′ c g s q z p = told-by reply-of r a _ _ _ told (rw (sym read ∙ known) (c z (registry-in p l g) (sym s) (sym q)))
 
-pub move-told : {R : Type 0} (reply-of : Answer → R) (call : Call) (f o : List ℕ) (g : List SharedReadMark) (a : Answer) (r : R) → r ≡ reply-of a → (f′ : List ℕ) → DirectMove call f o g a f′ → MoveReplied reply-of call f o g r f′
-move-told reply-of call f o g a r told f′ e z p = told-by reply-of r a _ _ _ told (e z p)
+      pub plan-step : (mark : ℕ) (seen : Seen) (b f o l b′ f′ o′ l′ : List ℕ) (place : ℕ) (item : SharedReadMark) → PlanCall n mark seen records (call k) b f o l a b′ f′ o′ l′ (λ g. set g place item) → PlanStep reply-of n mark seen records (with-mode (mode-given mode) call) b f o l r b′ f′ o′ l′ place item
+      unfolding PlanCarried PlanStep
+      plan-step mark seen b f o l b′ f′ o′ l′ place item c g s q z p = told-by reply-of r a _ _ _ told (rw (sym read ∙ known) (c g s q z p))
+
+    -- an unknown mode: refused with 1, and nothing is stored
+    module _ (unknown : given ≡ Unknown) (r : R) (told : r ≡ reply-of (refused 1)) where
+      pub release-unknown : (slot : ℕ) (shared : Bool) (b f o l : List ℕ) → ReleaseStep reply-of n slot shared records (with-mode (mode-given mode) call) b f o l r b f o l
+      unfolding ReleaseStep
+      release-unknown slot shared b f o l g s q z p = told-by reply-of r (refused 1) _ _ _ told (rw (sym read ∙ unknown))
+
+      pub plan-unknown : (mark : ℕ) (seen : Seen) (b f o l : List ℕ) (item : SharedReadMark) → PlanStep reply-of n mark seen records (with-mode (mode-given mode) call) b f o l r b f o l records item
+      unfolding PlanStep
+      plan-unknown mark seen b f o l item g s q z p = told-by reply-of r (refused 1) _ _ _ told (rw (sym read ∙ unknown, set-out g records item (omega arith)))
+
+-- a shared call's step, by its plan
+module _ (mode : ℕ) (given : Mode) (read : given ≡ mode-given mode) (call : SharedWalOwnershipMode → Call) (n records mark : ℕ) (seen : Seen) (b f o l : List ℕ) where
+  pub share-made : (k : SharedWalOwnershipMode) → given ≡ Given k → (b′ f′ o′ l′ : List ℕ) (plan : SharePlan) → PlanCall n mark seen records (call k) b f o l (share-answer (plan .answer)) b′ f′ o′ l′ (λ g. set g (plan .place) (plan .item)) → (step : ShareStep) → step ≡ shares-step plan → PlanStep reader-reply n mark seen records (with-mode (mode-given mode) call) b f o l (step .reply) b′ f′ o′ l′ (step .place) (step .item)
+  share-made k known b′ f′ o′ l′ plan c step made = rw made (plan-step reader-reply mode call n records given read k known _ _ refl mark seen b f o l b′ f′ o′ l′ (plan .place) (plan .item) c)
+
+  pub share-refused : given ≡ Unknown → (item : SharedReadMark) (step : ShareStep) → step ≡ shares-unknown records item → PlanStep reader-reply n mark seen records (with-mode (mode-given mode) call) b f o l (step .reply) b f o l (step .place) (step .item)
+  share-refused unknown item step made = rw made (plan-unknown reader-reply mode call n records given read unknown _ refl mark seen b f o l item)
+
+  pub unshare-made : (k : SharedWalOwnershipMode) → given ≡ Given k → (b′ f′ o′ l′ : List ℕ) (plan : UnsharePlan) → PlanCall n mark seen records (call k) b f o l (release-answer (plan .answer)) b′ f′ o′ l′ (λ g. set g (plan .place) (plan .item)) → (step : UnshareStep) → step ≡ unshares-step plan → PlanStep refusal-number n mark seen records (with-mode (mode-given mode) call) b f o l (step .refusal) b′ f′ o′ l′ (step .place) (step .item)
+  unshare-made k known b′ f′ o′ l′ plan c step made = rw made (plan-step refusal-number mode call n records given read k known _ _ refl mark seen b f o l b′ f′ o′ l′ (plan .place) (plan .item) c)
+
+  pub unshare-refused : given ≡ Unknown → (item : SharedReadMark) (step : UnshareStep) → step ≡ unshares-unknown records item → PlanStep refusal-number n mark seen records (with-mode (mode-given mode) call) b f o l (step .refusal) b f o l (step .place) (step .item)
+  unshare-refused unknown item step made = rw made (plan-unknown refusal-number mode call n records given read unknown _ refl mark seen b f o l item)
+
+pub move-step : {R : Type 0} (reply-of : Answer → R) (call : Call) (n slot : ℕ) (shared : Bool) (records : ℕ) (f o : List ℕ) (a : Answer) (r : R) → r ≡ reply-of a → (f′ : List ℕ) → MoveCall n slot shared records call f o a f′ → MoveStep reply-of n slot shared records call f o r f′
+unfolding MoveStep
+move-step reply-of call n slot shared records f o a r told f′ c g s q z p = told-by reply-of r a _ _ _ told (c z (registry-in p (p .local-readers) g) (sym s) (sym q))
+
+-- a step taken: what the C function promises of the registry that it has seen
+pub move-taken : {R : Type 0} (reply-of : Answer → R) (call : Call) (n slot : ℕ) (shared : Bool) (f o : List ℕ) (r : R) (f′ : List ℕ) (g : List SharedReadMark) → MoveStep reply-of n slot shared (length g) call f o r f′ → shared ≡ in-registry n g slot → MoveReplied reply-of call f o g r f′
+unfolding MoveStep
+move-taken reply-of call n slot shared f o r f′ g step seen = step g seen refl
+
+pub release-taken : {R : Type 0} (reply-of : Answer → R) (call : Call) (n slot : ℕ) (shared : Bool) (b f o l : List ℕ) (r : R) (b′ f′ o′ l′ : List ℕ) (g : List SharedReadMark) → ReleaseStep reply-of n slot shared (length g) call b f o l r b′ f′ o′ l′ → shared ≡ in-registry n g slot → RegistryReplied reply-of call b f o l g r b′ f′ o′ l′ g
+unfolding ReleaseStep
+release-taken reply-of call n slot shared b f o l r b′ f′ o′ l′ g step seen = step g seen refl
+
+pub plan-taken : {R : Type 0} (reply-of : Answer → R) (call : Call) (n mark : ℕ) (seen : Seen) (b f o l : List ℕ) (r : R) (b′ f′ o′ l′ : List ℕ) (place : ℕ) (item : SharedReadMark) (g g′ : List SharedReadMark) → PlanStep reply-of n mark seen (length g) call b f o l r b′ f′ o′ l′ place item → seen ≡ seen-of (min n (length g)) g mark → g′ ≡ set g place item → RegistryReplied reply-of call b f o l g r b′ f′ o′ l′ g′
+unfolding PlanStep
+plan-taken reply-of call n mark seen b f o l r b′ f′ o′ l′ place item g g′ step looked put = rw put (step g looked refl)

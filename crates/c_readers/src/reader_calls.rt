@@ -1,4 +1,5 @@
 // The calls on reader slots and shared marks.
+use crate::registry_steps;
 use c_reader_replies::DbFileReply;
 use c_reader_replies::FloorReply;
 use c_reader_replies::LimitReply;
@@ -6,8 +7,7 @@ use c_reader_replies::ReaderReply;
 use reader_floor::floor;
 use reader_limit::limit;
 use reader_register::register;
-use registry_calls::direct;
-use registry_calls::shared;
+use wal_types::DB_FILE_READER_FRAME;
 use wal_types::SharedOwnerRecord;
 use wal_types::SharedReadMark;
 ghost use Rattle.reader_register.specs.Register.{register-reader};
@@ -65,17 +65,18 @@ pub extern "C" fn wal_update_reader(
 ) -> ReaderReply
     ensures { λ r. ⌜ MoveReplied reader-reply (update-reader n slot owner mark) (now («reader_frames» .entry)) (now («reader_owners» .entry)) (now (registry .entry)) r (now («reader_frames» .exit)) ⌝ }
 {
-    let offered = SharedOwnerRecord(owner);
-    let answer = direct::update_reader(
+    let records = registry.len();
+    let in_registry = reader_registry::slot_is_shared(registry, n, slot);
+    registry_steps::update_reader(
         n,
         reader_frames,
         reader_owners,
-        registry,
         slot,
-        offered,
+        owner,
         mark,
-    );
-    c_reader_replies::move_told(answer, slot, offered, mark)
+        in_registry,
+        records,
+    )
 }
 
 // Releases a reader's slot. Answers 0, or the number of the refusal.
@@ -93,19 +94,20 @@ pub extern "C" fn wal_unregister_reader(
 ) -> u32
     ensures { λ r. ⌜ RegistryReplied refusal-number (with-mode (mode-given mode) (λ given. unregister-reader n given slot owner)) (now (bitmap .entry)) (now («reader_frames» .entry)) (now («reader_owners» .entry)) (now («local_readers» .entry)) (now (registry .entry)) r (now (bitmap .exit)) (now («reader_frames» .exit)) (now («reader_owners» .exit)) (now («local_readers» .exit)) (now (registry .entry)) ⌝ }
 {
-    let given = c_reader_replies::settings_of(n, mode);
-    let answer = direct::unregister_reader(
-        given.n,
-        given.mode,
+    let records = registry.len();
+    let in_registry = reader_registry::slot_is_shared(registry, n, slot);
+    registry_steps::unregister_reader(
+        n,
+        mode,
         bitmap,
         reader_frames,
         reader_owners,
         local_readers,
-        registry,
         slot,
-        SharedOwnerRecord(owner),
-    );
-    c_reader_replies::release_told(answer)
+        owner,
+        in_registry,
+        records,
+    )
 }
 
 // Takes a reader slot at a mark, or joins the connections of this process that share the mark. card is as in
@@ -125,20 +127,23 @@ pub extern "C" fn wal_register_reader_for_snapshot(
 ) -> ReaderReply
     ensures { λ r. ⌜ RegistryReplied reader-reply (with-mode (mode-given mode) (λ given. register-reader-for-snapshot n given owner mark (now (card .entry)))) (now (bitmap .entry)) (now («reader_frames» .entry)) (now («reader_owners» .entry)) (now («local_readers» .entry)) (now (registry .entry)) r (now (bitmap .exit)) (now («reader_frames» .exit)) (now («reader_owners» .exit)) (now («local_readers» .exit)) (now (registry .exit)) ⌝ }
 {
-    let given = c_reader_replies::settings_of(n, mode);
-    let answer = shared::register_reader_for_snapshot(
-        given.n,
-        given.mode,
+    let records = registry.len();
+    let seen = reader_registry::look_through(registry, n, mark);
+    let step = registry_steps::register_reader_for_snapshot(
+        n,
+        mode,
         bitmap,
         reader_frames,
         reader_owners,
         local_readers,
-        registry,
+        records,
+        seen,
         card,
-        SharedOwnerRecord(owner),
+        owner,
         mark,
     );
-    c_reader_replies::share_told(answer)
+    reader_registry::put_record(registry, step.place, step.item);
+    step.reply
 }
 
 // Registers a reader of the database file alone. card is as in wal_register_reader.
@@ -156,19 +161,23 @@ pub extern "C" fn wal_register_db_file_reader(
 ) -> ReaderReply
     ensures { λ r. ⌜ RegistryReplied reader-reply (with-mode (mode-given mode) (λ given. register-db-file-reader n given owner (now (card .entry)))) (now (bitmap .entry)) (now («reader_frames» .entry)) (now («reader_owners» .entry)) (now («local_readers» .entry)) (now (registry .entry)) r (now (bitmap .exit)) (now («reader_frames» .exit)) (now («reader_owners» .exit)) (now («local_readers» .exit)) (now (registry .exit)) ⌝ }
 {
-    let given = c_reader_replies::settings_of(n, mode);
-    let answer = shared::register_db_file_reader(
-        given.n,
-        given.mode,
+    let records = registry.len();
+    let seen = reader_registry::look_through(registry, n, DB_FILE_READER_FRAME);
+    let step = registry_steps::register_reader_for_snapshot(
+        n,
+        mode,
         bitmap,
         reader_frames,
         reader_owners,
         local_readers,
-        registry,
+        records,
+        seen,
         card,
-        SharedOwnerRecord(owner),
+        owner,
+        DB_FILE_READER_FRAME,
     );
-    c_reader_replies::share_told(answer)
+    reader_registry::put_record(registry, step.place, step.item);
+    step.reply
 }
 
 // Releases a shared mark: a holder less, and the last one empties the slot. Answers 0, or the number of the refusal.
@@ -187,20 +196,23 @@ pub extern "C" fn wal_unregister_reader_for_snapshot(
 ) -> u32
     ensures { λ r. ⌜ RegistryReplied refusal-number (with-mode (mode-given mode) (λ given. unregister-reader-for-snapshot n given mark slot owner)) (now (bitmap .entry)) (now («reader_frames» .entry)) (now («reader_owners» .entry)) (now («local_readers» .entry)) (now (registry .entry)) r (now (bitmap .exit)) (now («reader_frames» .exit)) (now («reader_owners» .exit)) (now («local_readers» .exit)) (now (registry .exit)) ⌝ }
 {
-    let given = c_reader_replies::settings_of(n, mode);
-    let answer = shared::unregister_reader_for_snapshot(
-        given.n,
-        given.mode,
+    let records = registry.len();
+    let seen = reader_registry::look_through(registry, n, mark);
+    let step = registry_steps::unregister_reader_for_snapshot(
+        n,
+        mode,
         bitmap,
         reader_frames,
         reader_owners,
         local_readers,
-        registry,
+        records,
+        seen,
         mark,
         slot,
-        SharedOwnerRecord(owner),
+        owner,
     );
-    c_reader_replies::release_told(answer)
+    reader_registry::put_record(registry, step.place, step.item);
+    step.refusal
 }
 
 // The least mark above 0 of all live readers. card is as in wal_register_reader.

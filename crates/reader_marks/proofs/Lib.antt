@@ -1,4 +1,2 @@
--- Laws of records that are wanted, of scans for them, and the walk of a function that changes one record.
+-- Laws of records that are wanted.
 pub mod Picked
-pub mod Scan
-mod Changes

@@ -1,16 +1,16 @@
-// The registry of shared marks: a lent slice of records, one for each mark that connections of this process share.
-use reader_slots::available;
+// One record of the registry of shared marks: whether a scan wants it, what a scan tells, and the record with a holder more
+// or less. The registry has a record for each mark that connections of this process share.
 use wal_types::SharedOwnerRecord;
 use wal_types::SharedReadMark;
 ghost use mathlib.Core.Path.{_≡_};
 ghost use mathlib.Core.Bool.{_&&_, cond};
-ghost use Prim.Native.Nat.{min};
-ghost use lib.ListN.{length};
-ghost use Rattle.reader_slots.specs.Slots.{in-registry};
 ghost use Rattle.reader_marks.specs.declared.Wanted.the-variants.{Mark, Slot, Empty};
 ghost use Rattle.reader_marks.specs.Registry.{is-empty, one-less};
-ghost use Rattle.reader_marks.specs.InnerChange.{one-more-below, first-held, retained, published, released};
-ghost use Rattle.reader_marks.specs.InnerScan.{picks, wants-use, none-picked, nothing-found, found-here, found-of, is-found, seen-alone, seen-with, seen-of};
+ghost use Rattle.reader_marks.specs.InnerChange.{one-more-below, first-held};
+ghost use Rattle.reader_marks.specs.InnerScan.{picks, wants-use, none-picked, nothing-found, found-here, is-found, seen-alone, seen-with};
+
+// A record has no more holders than this.
+pub const MOST_HOLDERS: u32 = 65535;
 
 // A record of the registry found, or none.
 pub enum Record {
@@ -69,7 +69,7 @@ fn wants_use(wanted: Wanted) -> bool
 }
 
 // Whether none of four records is wanted.
-fn none_wanted(
+pub fn none_wanted(
     a: SharedReadMark,
     b: SharedReadMark,
     c: SharedReadMark,
@@ -94,7 +94,7 @@ fn none_wanted(
 }
 
 // What a scan gives that finds nothing, and one that stops at a record.
-fn nothing_found() -> Found
+pub fn nothing_found() -> Found
     ensures { λ r. ⌜ r ≡ nothing-found ⌝ }
 {
     Found {
@@ -108,7 +108,7 @@ fn nothing_found() -> Found
     }
 }
 
-fn found_here(i: usize, m: SharedReadMark) -> Found
+pub fn found_here(i: usize, m: SharedReadMark) -> Found
     ensures { λ r. ⌜ r ≡ found-here i m ⌝ }
 {
     let here = Record::At(i);
@@ -119,7 +119,7 @@ fn found_here(i: usize, m: SharedReadMark) -> Found
 }
 
 // One record more: a scan stops at the first that is wanted.
-fn see(stop: usize, i: usize, m: SharedReadMark, wanted: Wanted) -> usize
+pub fn see(stop: usize, i: usize, m: SharedReadMark, wanted: Wanted) -> usize
     ensures { λ r. ⌜ r ≡ cond (picks wanted m) i stop ⌝ }
 {
     if is_wanted(m, wanted) {
@@ -128,57 +128,26 @@ fn see(stop: usize, i: usize, m: SharedReadMark, wanted: Wanted) -> usize
     stop
 }
 
-// The first of the first n records, or of all if there are fewer, that is wanted. Four at a time are passed over where none is.
-fn first_record(registry: &[SharedReadMark], n: usize, wanted: Wanted) -> Found
-    ensures { λ r. ⌜ r ≡ found-of (picks wanted) (now (registry .entry)) (min n (length (now (registry .entry)))) ⌝ }
-{
-    let end = available::smaller(n, registry.len());
-    let mut stop = end;
-    let mut i = 0;
-    while i < stop {
-        let mut pass = false;
-        if 4 <= stop - i {
-            pass = none_wanted(
-                registry[i],
-                registry[i + 1],
-                registry[i + 2],
-                registry[i + 3],
-                wanted,
-            );
-        }
-        if pass {
-            i += 4;
-        } else {
-            stop = see(stop, i, registry[i], wanted);
-            i += 1;
-        }
-    }
-    if stop < end {
-        return found_here(stop, registry[stop]);
-    }
-    nothing_found()
-}
-
 // The three scans: for a mark, for a slot, for an empty record.
-fn mark_wanted(mark: u64) -> Wanted
+pub fn mark_wanted(mark: u64) -> Wanted
     ensures { λ r. ⌜ r ≡ Mark mark ⌝ }
 {
     Wanted::Mark(mark)
 }
 
-fn slot_wanted(slot: usize) -> Wanted
+pub fn slot_wanted(slot: usize) -> Wanted
     ensures { λ r. ⌜ r ≡ Slot slot ⌝ }
 {
     Wanted::Slot(slot)
 }
 
-fn empty_wanted() -> Wanted
+pub fn empty_wanted() -> Wanted
     ensures { λ r. ⌜ r ≡ Empty ⌝ }
 {
     Wanted::Empty
 }
 
-fn is_found(place: Record) -> bool
+pub fn is_found(place: Record) -> bool
     ensures { λ r. ⌜ r ≡ is-found place ⌝ }
 {
     match place {
@@ -188,7 +157,7 @@ fn is_found(place: Record) -> bool
 }
 
 // What is seen where the mark has a record, and where it has none.
-fn seen_alone(found: Found) -> Seen
+pub fn seen_alone(found: Found) -> Seen
     ensures { λ r. ⌜ r ≡ seen-alone found ⌝ }
 {
     let place = found.place;
@@ -201,7 +170,7 @@ fn seen_alone(found: Found) -> Seen
     }
 }
 
-fn seen_with(found: Found, empty: Found) -> Seen
+pub fn seen_with(found: Found, empty: Found) -> Seen
     ensures { λ r. ⌜ r ≡ seen-with found empty ⌝ }
 {
     let place = found.place;
@@ -214,39 +183,19 @@ fn seen_with(found: Found, empty: Found) -> Seen
     }
 }
 
-// Looks for a mark among the first n records, or all if there are fewer, and for an empty one where the mark has none.
-pub fn look_through(registry: &[SharedReadMark], n: usize, mark: u64) -> Seen
-    ensures { λ r. ⌜ r ≡ seen-of (min n (length (now (registry .entry)))) (now (registry .entry)) mark ⌝ }
-{
-    let found = first_record(registry, n, mark_wanted(mark));
-    if is_found(found.place) {
-        return seen_alone(found);
-    }
-    let free = first_record(registry, n, empty_wanted());
-    seen_with(found, free)
-}
-
-// Whether one of the first n records is in use for the slot.
-pub fn slot_is_shared(registry: &[SharedReadMark], n: usize, slot: usize) -> bool
-    ensures { λ r. ⌜ r ≡ in-registry n (now (registry .entry)) slot ⌝ }
-{
-    let found = first_record(registry, n, slot_wanted(slot));
-    is_found(found.place)
-}
-
-// A record with a holder more. One with 65,535 holders or more stays as it is.
-fn with_holder_more(m: SharedReadMark) -> SharedReadMark
+// A connection more shares the mark of a record. One with 65,535 holders or more stays as it is.
+pub fn retain_shared_snapshot_reader(m: SharedReadMark) -> SharedReadMark
     ensures { λ r. ⌜ r ≡ one-more-below m ⌝ }
 {
     let mut next = m;
-    if m.holders < 65535 {
+    if m.holders < MOST_HOLDERS {
         next.holders = m.holders + 1;
     }
     next
 }
 
-// A record with a holder less. With 0 holders left it is empty.
-fn with_holder_less(m: SharedReadMark) -> SharedReadMark
+// A connection less shares the mark of a record. With 0 holders left it is empty.
+pub fn release_shared_snapshot_reader(m: SharedReadMark) -> SharedReadMark
     ensures { λ r. ⌜ r ≡ one-less m ⌝ }
 {
     let mut next = m;
@@ -256,8 +205,12 @@ fn with_holder_less(m: SharedReadMark) -> SharedReadMark
     next
 }
 
-// A new record, with its first holder.
-fn first_held(mark: u64, slot: u32, owner: SharedOwnerRecord) -> SharedReadMark
+// A new mark for connections to share: a record with its first holder.
+pub fn publish_shared_snapshot_reader(
+    mark: u64,
+    slot: u32,
+    owner: SharedOwnerRecord,
+) -> SharedReadMark
     ensures { λ r. ⌜ r ≡ first-held mark slot owner ⌝ }
 {
     SharedReadMark {
@@ -265,38 +218,5 @@ fn first_held(mark: u64, slot: u32, owner: SharedOwnerRecord) -> SharedReadMark
         slot: slot,
         owner: owner,
         holders: 1,
-    }
-}
-
-// A connection more shares the mark of a record. Past the end nothing is written.
-pub fn retain_shared_snapshot_reader(registry: &mut [SharedReadMark], at: usize)
-    ensures { λ _. ⌜ now (registry .exit) ≡ retained at (now (registry .entry)) ⌝ }
-{
-    if at < registry.len() {
-        registry[at] = with_holder_more(registry[at]);
-    }
-}
-
-// A new mark for connections to share, in an empty record. Past the end nothing is written.
-pub fn publish_shared_snapshot_reader(
-    registry: &mut [SharedReadMark],
-    at: usize,
-    mark: u64,
-    slot: u32,
-    owner: SharedOwnerRecord,
-)
-    ensures { λ _. ⌜ now (registry .exit) ≡ published at mark slot owner (now (registry .entry)) ⌝ }
-{
-    if at < registry.len() {
-        registry[at] = first_held(mark, slot, owner);
-    }
-}
-
-// A connection less shares the mark of a record. Past the end nothing is written.
-pub fn release_shared_snapshot_reader(registry: &mut [SharedReadMark], at: usize)
-    ensures { λ _. ⌜ now (registry .exit) ≡ released at (now (registry .entry)) ⌝ }
-{
-    if at < registry.len() {
-        registry[at] = with_holder_less(registry[at]);
     }
 }

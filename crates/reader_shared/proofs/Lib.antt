@@ -1,5 +1,6 @@
--- Laws of refusals, of stale slots, and of each call on shared marks.
+-- Laws of plans, of refusals and of stale slots.
 pub mod Refused
+pub mod Unmarked
+pub mod NoRecord
 pub mod Stale
-pub mod Shares
-pub mod Unshares
+pub mod Plans

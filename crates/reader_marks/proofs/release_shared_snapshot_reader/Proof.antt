@@ -1,21 +1,18 @@
--- `reader_marks::release_shared_snapshot_reader` meets its contract: the walk of `Changes` over its core. Assumes nothing.
-use mathlib.Core.Path.{refl}
-use contract.Running.{givenOf, tables, tablesOf}
-use denote.Triple.Spec.{tripleOf}
-use denote.Triple.Table.{entered, cited}
-use Rattle.reader_marks.specs.Registry.{one-less}
-use Rattle.reader_marks.proofs.with_holder_less.Symbol as core
-use Rattle.reader_marks.proofs.with_holder_less.Met as core-thm
-use Rattle.reader_marks.proofs.Changes.{Core, entry-meets}
-use Rattle.reader_marks.proofs.release_shared_snapshot_reader.Key as key
-use Rattle.reader_marks.proofs.release_shared_snapshot_reader as entry
-use Rattle.reader_marks.proofs.release_shared_snapshot_reader.Statement as stated
-use Rattle.reader_marks.proofs.release_shared_snapshot_reader.Code as code
+use Prim.Native.Nat.{ℕ, _-_}
+use mathlib.Core.Path.{_≡_, ap}
+use native.Mathlib.Omega.{arith}
+use borrow.Author.Needs.{needs}
+use Rattle.reader_marks.proofs.release_shared_snapshot_reader.Statement.{statement}
+use Rattle.reader_marks.proofs.release_shared_snapshot_reader.Tie as tie
 
-pub release-shared-snapshot-reader-spec : {M : Type 1} → stated.statement M
-unfolding code.routine tablesOf
-release-shared-snapshot-reader-spec 𝓤 H 𝓜 𝓖 𝓡 =
-    entered 𝓤 H (tripleOf 𝓤 H (𝓖 .A) entry.signature (entry.spec 𝓤 H (𝓖 .A) (𝓜 .mem) (𝓡 .run)))
-    (tables 𝓤 H 𝓜 𝓡 code.env .C) (tables 𝓤 H 𝓜 𝓡 code.env .Λ) key.name code.function (code.unfolded 𝓤 H 𝓜 𝓡)
-    (entry-meets one-less core.name 𝓤 H (𝓖 .A) (givenOf 𝓤 H 𝓜 𝓖) (tablesOf 𝓤 H 𝓜 (tables 𝓤 H 𝓜 𝓡 code.env))
-    (cited 𝓤 H (Core one-less 𝓤 H (𝓖 .A)) 𝓜 𝓡 code.env core.name core.routine refl (core-thm.met 𝓤 H 𝓜 𝓖 𝓡)))
+sub-next : tie.Need-sub-next
+sub-next c = search needs
+
+returns : tie.Need-returns
+returns c = search needs
+
+returns-2 : tie.Need-returns-2
+returns-2 c = let k = c .before .before .args .m .holders in let e : k ≡ k - 1 = omega arith in ap (λ (h : ℕ). record { mark = c .before .before .args .m .mark; slot = c .before .before .args .m .slot; owner = c .before .before .args .m .owner; holders = h }) e
+
+pub release-shared-snapshot-reader-spec : {M : Type 1} → statement M
+release-shared-snapshot-reader-spec = tie.close (tie.spec sub-next returns returns-2)

@@ -1,4 +1,4 @@
-use Rattle.reader_shared.proofs.Unshares.{last-not-held, last-other, last-fine, last-ofd, last-fcntl}
+use Rattle.reader_shared.proofs.Unmarked.{last-not-held, last-other, last-fine, last-ofd, last-fcntl}
 use borrow.Author.Needs.{needs}
 use Rattle.reader_shared.proofs.shared.last_refusal.Statement.{statement}
 use Rattle.reader_shared.proofs.shared.last_refusal.Tie as tie

@@ -1,4 +1,4 @@
-use Rattle.reader_shared.proofs.Unshares.{mark-no-owner, mark-unused, mark-known, mark-unknown}
+use Rattle.reader_shared.proofs.Unmarked.{mark-no-owner, mark-unused, mark-known, mark-unknown}
 use Rattle.reader_shared.proofs.shared.mark_refusal.Statement.{statement}
 use Rattle.reader_shared.proofs.shared.mark_refusal.Tie as tie
 

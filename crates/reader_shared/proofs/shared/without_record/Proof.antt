@@ -1,4 +1,4 @@
-use Rattle.reader_shared.proofs.Shares.{no-record-slot, no-record-stale, no-record-none}
+use Rattle.reader_shared.proofs.NoRecord.{no-record-slot, no-record-stale, no-record-none}
 use native.Mathlib.Omega.{arith}
 use borrow.Author.Needs.{needs}
 use Rattle.reader_shared.proofs.shared.without_record.Statement.{statement}

@@ -1,0 +1,3 @@
+-- Laws of each call on shared marks.
+pub mod Shares
+pub mod Unshares

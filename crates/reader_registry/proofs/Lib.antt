@@ -1,0 +1,2 @@
+-- Laws of scans.
+pub mod Scan
