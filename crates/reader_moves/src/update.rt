@@ -6,6 +6,7 @@ use wal_types::SharedOwnerRecord;
 use wal_types::SharedWalOwnershipMode;
 use wal_types::UNOWNED_LOCK;
 use wal_types::UNUSED_READER_FRAME;
+use wal_types::refusal;
 ghost use mathlib.Core.Path.{_≡_};
 ghost use mathlib.Core.Bool.{not, _&&_, _||_};
 ghost use Prim.Native.Nat.{_/_, _<_};
@@ -45,34 +46,34 @@ pub fn update_core(
     ensures { λ r. ⌜ MoveCall n slot «in_registry» «registry_len» (update-reader n slot (owner .0) mark) (now («reader_frames» .entry)) (now («reader_owners» .entry)) (update-answer slot (owner .0) mark r) (now («reader_frames» .exit)) ⌝ }
 {
     if n < 1 {
-        return Update::Refused(1);
+        return Update::Refused(refusal::SETTINGS);
     }
     if 256 < n {
-        return Update::Refused(1);
+        return Update::Refused(refusal::SETTINGS);
     }
     if reader_frames.len() < n {
-        return Update::Refused(2);
+        return Update::Refused(refusal::SHORT_MEMORY);
     }
     if reader_owners.len() < n {
-        return Update::Refused(2);
+        return Update::Refused(refusal::SHORT_MEMORY);
     }
     if registry_len < n {
-        return Update::Refused(2);
+        return Update::Refused(refusal::SHORT_MEMORY);
     }
     if n <= slot {
-        return Update::Refused(6);
+        return Update::Refused(refusal::SLOT_NUMBER);
     }
     if owner.0 != reader_owners[slot] {
-        return Update::Refused(8);
+        return Update::Refused(refusal::OTHER_OWNER);
     }
-    if owner.0 == 0 {
-        return Update::Refused(9);
+    if owner.0 == UNOWNED_LOCK {
+        return Update::Refused(refusal::NO_OWNER);
     }
     if mark == UNUSED_READER_FRAME {
-        return Update::Refused(10);
+        return Update::Refused(refusal::UNUSED_MARK);
     }
     if in_registry {
-        return Update::Refused(11);
+        return Update::Refused(refusal::SHARED_SLOT);
     }
     reader_frames[slot] = mark;
     Update::Moved
@@ -128,24 +129,24 @@ pub fn unregister_core(
 ) -> Release
     ensures { λ r. ⌜ ReleaseCall n slot «in_registry» «registry_len» (unregister-reader n mode slot (owner .0)) (now (bitmap .entry)) (now («reader_frames» .entry)) (now («reader_owners» .entry)) (now («local_readers» .entry)) (release-answer r) (now (bitmap .exit)) (now («reader_frames» .exit)) (now («reader_owners» .exit)) (now («local_readers» .exit)) ⌝ }
 {
-    let refusal = slots::slots_refusal(
+    let early = slots::slots_refusal(
         n,
         bitmap.len(),
         reader_frames.len(),
         reader_owners.len(),
         local_readers.len(),
     );
-    if refusal != 0 {
-        return Release::Refused(refusal);
+    if early != 0 {
+        return Release::Refused(early);
     }
     if registry_len < n {
-        return Release::Refused(2);
+        return Release::Refused(refusal::SHORT_MEMORY);
     }
     if n <= slot {
-        return Release::Refused(6);
+        return Release::Refused(refusal::SLOT_NUMBER);
     }
     if local_readers[slot] == UNOWNED_LOCK {
-        return Release::Refused(7);
+        return Release::Refused(refusal::NOT_HELD);
     }
     if by_other_owner(
         mode,
@@ -153,13 +154,13 @@ pub fn unregister_core(
         SharedOwnerRecord(reader_owners[slot]),
         SharedOwnerRecord(local_readers[slot]),
     ) {
-        return Release::Refused(8);
+        return Release::Refused(refusal::OTHER_OWNER);
     }
-    if owner.0 == 0 {
-        return Release::Refused(9);
+    if owner.0 == UNOWNED_LOCK {
+        return Release::Refused(refusal::NO_OWNER);
     }
     if in_registry {
-        return Release::Refused(11);
+        return Release::Refused(refusal::SHARED_SLOT);
     }
     release_slot(
         mode,

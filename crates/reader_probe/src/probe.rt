@@ -4,6 +4,7 @@ use reader_slots::slots;
 use wal_types::DB_FILE_READER_FRAME;
 use wal_types::SharedOwnerRecord;
 use wal_types::SharedWalOwnershipMode;
+use wal_types::refusal;
 ghost use mathlib.Core.Path.{_≡_};
 ghost use Prim.Native.Nat.{_≤_};
 ghost use lib.ListN.{length};
@@ -123,17 +124,17 @@ pub fn floor_refusal(
     ensures { λ r. ⌜ r ≡ probe-refusal n mode (now (card .entry)) (now («reader_frames» .entry)) (now («reader_owners» .entry)) (now («local_readers» .entry)) n ⌝ }
 {
     if card.len() != n {
-        return 14;
+        return refusal::CARD;
     }
     let greatest = slots::greatest_byte(card);
     if 2 < greatest {
-        return 14;
+        return refusal::CARD;
     }
     if greatest < 2 {
         return 0;
     }
     if some_probe_failed(n, mode, reader_frames, reader_owners, local_readers, card) {
-        return 15;
+        return refusal::PROBE;
     }
     0
 }
@@ -151,11 +152,11 @@ pub fn db_file_refusal(
     ensures { λ r. ⌜ r ≡ probe-refusal n mode (now (card .entry)) (now («reader_frames» .entry)) (now («reader_owners» .entry)) (now («local_readers» .entry)) (looked-at n (lowest-slot (db-file-by mode (now (card .entry)) (now («reader_frames» .entry)) (now («reader_owners» .entry)) (now («local_readers» .entry))) n 0)) ⌝ }
 {
     if card.len() != n {
-        return 14;
+        return refusal::CARD;
     }
     let greatest = slots::greatest_byte(card);
     if 2 < greatest {
-        return 14;
+        return refusal::CARD;
     }
     if greatest < 2 {
         return 0;
@@ -169,7 +170,7 @@ pub fn db_file_refusal(
         local_readers,
         card,
     ) {
-        return 15;
+        return refusal::PROBE;
     }
     0
 }
