@@ -7,7 +7,7 @@ use Rattle.wal_types.specs.declared.SharedWalOwnershipMode.{SharedWalOwnershipM
 use Rattle.wal_types.specs.Memory.{Memory, Process}
 use Rattle.wal_types.specs.Store.{apply}
 use Rattle.reader_slots.specs.Slots.{held, granted}
-use Rattle.reader_slots.proofs.Kept.{SlotSame, emptied-keeps}
+use Rattle.reader_slots.proofs.Kept.{SlotSame, Aside, aside-same, never-aside}
 use Rattle.reader_probe.specs.Live.{skipped, dead}
 use Rattle.reader_floor.specs.Floor.{reclaim-dead}
 
@@ -16,5 +16,8 @@ middle-false true c = refl
 middle-false false c = refl
 
 module _ (mode : SharedWalOwnershipMode) (bytes : List ℕ) (p : Process) (j : ℕ) (here : held p j ≡ true) where
+  pub dead-aside : (looked : ℕ) (m : Memory) → Aside j m (reclaim-dead mode bytes p looked m)
+  dead-aside looked m = never-aside mode (dead mode bytes p) j (λ x. rw here (middle-false (not (skipped mode x j)) (granted bytes j))) looked 0 m
+
   pub dead-keeps : (looked : ℕ) (m : Memory) → SlotSame j m (apply (reclaim-dead mode bytes p looked m) m)
-  dead-keeps looked m = emptied-keeps mode (dead mode bytes p) j (λ x. rw here (middle-false (not (skipped mode x j)) (granted bytes j))) looked 0 m
+  dead-keeps looked m = aside-same j m (reclaim-dead mode bytes p looked m) (dead-aside looked m)

@@ -17,7 +17,7 @@ use Rattle.wal_types.specs.Settings.{slots-in-limits, unused}
 use Rattle.wal_types.specs.Memory.{Memory, Process, slot-bit}
 use Rattle.wal_types.specs.Store.{apply, when}
 use Rattle.wal_types.specs.Refusal.{lowest}
-use Rattle.wal_types.specs.Call.{refused, slot-taken, Done, after, done}
+use Rattle.wal_types.specs.Call.{refused, slot-taken, accepted-or, Done, after, done}
 use Rattle.reader_bitmap.specs.Bit.{clear-bit}
 use Rattle.reader_bitmap.proofs.Bits.{clear-same}
 use Rattle.reader_slots.specs.declared.slots.Slot.{Slot}
@@ -28,9 +28,9 @@ use Rattle.reader_slots.specs.Search.{either-slot}
 use Rattle.reader_slots.specs.Inner.{slots-refusal, emptied-if}
 use Rattle.reader_slots.proofs.Calls.{apply-append, refuses, accepts, Enough, enough}
 use Rattle.reader_slots.proofs.Lowest.{found-below, lowest-at}
-use Rattle.reader_slots.proofs.Kept.{SlotSame, slot-same, slot-same-then, taken-other}
+use Rattle.reader_slots.proofs.Kept.{SlotSame, Aside, aside-same, aside-then, taken-aside}
 use Rattle.reader_register.proofs.Registered.{all-pass}
-use Rattle.reader_register.proofs.Kept.{reclaim-keeps}
+use Rattle.reader_register.proofs.Kept.{reclaim-aside}
 
 -- the lists have as many cells as before
 pub record SameLengths (m m′ : Memory) : Type 0 where
@@ -157,27 +157,38 @@ module _ (n : ℕ) (mode : SharedWalOwnershipMode) (owner mark : ℕ) (bytes : L
       go (yes x) = found x chosen refl (sym (ap (λ (d : Done). d .answer) (register-accepted x)) ∙ e)
       go (no f) = let r : refused number-given ≡ slot-taken i o k = sym (ap (λ (d : Done). d .answer) (register-refused f)) ∙ e in let y : _≡_ {A = ℕ} 0 1 = cc in absurd (omega arith)
 
-  -- a slot held here keeps its cells and its local owner
-  abbrev KeepsSlot : ℕ → Done → Type 0
-  KeepsSlot j d = SlotSame j m (d .memory) × (getD (d .process .local-readers) j 0 ≡ getD (p .local-readers) j 0)
+  -- a slot held here is left alone by every store, and keeps its local owner
+  module _ (j : ℕ) (here : held p j ≡ true) where
+    differs : (i : ℕ) → chosen ≡ At i → j ≡ i → ⊥
+    differs i c q = let z : _≡_ {A = Bool} true false = sym here ∙ ap (held p) q ∙ chosen-unheld i c .0 in let y : _≡_ {A = ℕ} 0 1 = cc in omega arith
 
-  pub register-keeps : (j : ℕ) → held p j ≡ true → KeepsSlot j result
-  register-keeps j here = go (ℕ-discrete number-given 0)
-    where
-      stays : (s : Slot) → SlotSame j m (apply (reclaim-unless n mode bytes p s m) m)
-      stays (At i) = slot-same j m
-      stays Nothing = reclaim-keeps n mode bytes p j here m
+    reclaim-leaves : (s : Slot) → Aside j m (reclaim-unless n mode bytes p s m)
+    reclaim-leaves (At i) = tt
+    reclaim-leaves Nothing = reclaim-aside n mode bytes p j here m
 
-      differs : (i : ℕ) → chosen ≡ At i → j ≡ i → ⊥
-      differs i c q = let z : _≡_ {A = Bool} true false = sym here ∙ ap (held p) q ∙ chosen-unheld i c .0 in let y : _≡_ {A = ℕ} 0 1 = cc in omega arith
+    take-leaves : (s : Slot) → chosen ≡ s → Aside j reclaimed (take-found owner mark s reclaimed)
+    take-leaves (At i) c = taken-aside i j owner mark reclaimed (differs i c)
+    take-leaves Nothing c = tt
 
-      taken : (s : Slot) → chosen ≡ s → SlotSame j m (apply (take-found owner mark s reclaimed) reclaimed) × (getD (hold-found owner p s .local-readers) j 0 ≡ getD (p .local-readers) j 0)
-      taken (At i) c = (
-        slot-same-then j m reclaimed (apply (take-slot i owner mark reclaimed) reclaimed) (stays (first-slot n bytes m p)) (taken-other i j owner mark reclaimed (differs i c)),
-        getD-set-other (p .local-readers) i j owner 0 (differs i c),
-      )
-      taken Nothing c = (stays (first-slot n bytes m p), refl)
+    pub register-aside : Aside j m (register-reader n mode owner mark bytes m p .stores)
+    unfolding register-reader
+    register-aside = go number-given
+      where
+        go : (k : ℕ) → Aside j m (accepted-or k p (registers n mode owner mark bytes m p) .stores)
+        go zero = aside-then j m (reclaim-unless n mode bytes p (first-slot n bytes m p) m) (take-found owner mark chosen reclaimed) (reclaim-leaves (first-slot n bytes m p)) (take-leaves chosen refl)
+        go (suc k) = tt
 
-      go : Dec (number-given ≡ 0) → KeepsSlot j result
-      go (yes x) = subst (KeepsSlot j) (sym (register-accepted x)) (taken chosen refl)
-      go (no f) = subst (KeepsSlot j) (sym (register-refused f)) (slot-same j m, refl)
+    local-kept : getD (result .process .local-readers) j 0 ≡ getD (p .local-readers) j 0
+    unfolding register-reader
+    local-kept = go number-given
+      where
+        held-still : (s : Slot) → chosen ≡ s → getD (hold-found owner p s .local-readers) j 0 ≡ getD (p .local-readers) j 0
+        held-still (At i) c = getD-set-other (p .local-readers) i j owner 0 (differs i c)
+        held-still Nothing c = refl
+
+        go : (k : ℕ) → getD (accepted-or k p (registers n mode owner mark bytes m p) .process .local-readers) j 0 ≡ getD (p .local-readers) j 0
+        go zero = held-still chosen refl
+        go (suc k) = refl
+
+    pub register-keeps : SlotSame j m (result .memory) × (getD (result .process .local-readers) j 0 ≡ getD (p .local-readers) j 0)
+    register-keeps = (aside-same j m (register-reader n mode owner mark bytes m p .stores) register-aside, local-kept)
