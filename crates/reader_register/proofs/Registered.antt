@@ -2,7 +2,7 @@
 use mathlib.Core.Path.{_≡_, refl, sym, _∙_}
 use mathlib.Core.Bool.{Bool, true, false, not, cond}
 use mathlib.Core.List.{List, [], _∷_}
-use Prim.Native.Nat.{ℕ, _+_, _/_, _<_, _≤_}
+use Prim.Native.Nat.{ℕ, _+_, _-_, _/_, _<_, _≤_}
 use native.Mathlib.Omega.{arith}
 use lib.Dec.{eqb}
 use lib.ListN.{length, set}
@@ -15,14 +15,14 @@ use Rattle.wal_types.specs.Refusal.{Test, _if_, no-owner, unused-mark, card}
 use Rattle.wal_types.specs.Call.{Answer, refused, slot-taken, none, after, done}
 use Rattle.reader_slots.specs.declared.slots.Slot.{Slot}
 use Rattle.reader_slots.specs.declared.slots.Slot.the-variants.{At, Nothing}
-use Rattle.reader_slots.specs.Slots.{shorter, bad-card, take-slot, slots-in, locals-in, ReaderCall}
+use Rattle.reader_slots.specs.Slots.{shorter, bad-card, take-slot, empty-slots, slots-in, locals-in, ReaderCall}
 use Rattle.reader_slots.specs.Search.{lowest-slot}
 use Rattle.reader_slots.specs.Inner.{slots-refusal, SlotsBecome, available-by}
 use Rattle.reader_slots.proofs.Calls.{apply-append, refuses, accepts, one-or-two, neither, Enough, enough}
 use Rattle.reader_slots.proofs.Card.{card-length}
-use Rattle.reader_register.specs.Register.{second-slot, reclaim-all, registers, register-tests, register-reader}
+use Rattle.reader_register.specs.Register.{second-slot, reclaimable, reclaim-all, registers, register-tests, register-reader}
 use Rattle.reader_register.specs.Inner.{stale-by, register-refusal, RegistersCall}
-use Rattle.reader_register.proofs.Second.{second-is-stale, nothing-reclaimed}
+use Rattle.reader_register.proofs.Second.{second-is-stale, nothing-reclaimed, reclaimed-from}
 
 -- The number of the refusal, by the number of the refusals 1 and 2 and the tests that follow.
 module _ (n words frames owners locals k : ℕ) (e : k ≡ slots-refusal n words frames owners locals) (owner mark : ℕ) (bytes : List ℕ) where
@@ -87,12 +87,12 @@ module _ (n : ℕ) (mode : SharedWalOwnershipMode) (owner mark : ℕ) (bytes b f
     second : (z : Memory) (p : Process) → second-slot n mode bytes (slots-in z b f o) (locals-in p l) ≡ s
     second z p = second-is-stale n mode bytes (slots-in z b f o) (locals-in p l) (λ j a. omega arith) none-free ∙ lowest-stale
 
-    pub takes-stale : (i : ℕ) → s ≡ At i → (b₁ f₁ o₁ : List ℕ) → SlotsBecome (λ m p. apply (reclaim-all n mode bytes p m) m) b f o l b₁ f₁ o₁ → (b′ f′ o′ l′ : List ℕ) → Takes i b₁ f₁ o₁ b′ f′ o′ l′ → Means (slot-taken i owner mark) b′ f′ o′ l′
+    pub takes-stale : (i : ℕ) → s ≡ At i → (b₁ f₁ o₁ : List ℕ) → SlotsBecome (λ m p. apply (empty-slots mode (reclaimable mode bytes p) (n - i) i m) m) b f o l b₁ f₁ o₁ → (b′ f′ o′ l′ : List ℕ) → Takes i b₁ f₁ o₁ b′ f′ o′ l′ → Means (slot-taken i owner mark) b′ f′ o′ l′
     unfolding RegistersCall
     takes-stale i e b₁ f₁ o₁ r b′ f′ o′ l′ g z p =
         let m = slots-in z b f o in let q = locals-in p l in
         let x = apply (reclaim-all n mode bytes q m) m in
-        rw (none-free, second z p, e, apply-append (reclaim-all n mode bytes q m) (take-slot i owner mark x) m, ← r z p, g .0 z p, g .1)
+        rw (none-free, second z p, e, apply-append (reclaim-all n mode bytes q m) (take-slot i owner mark x) m, reclaimed-from n mode bytes m q i (lowest-stale ∙ e), ← r z p, g .0 z p, g .1)
 
     pub takes-none : s ≡ Nothing → Means none b f o l
     unfolding RegistersCall

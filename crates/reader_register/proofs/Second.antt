@@ -3,7 +3,7 @@
 use mathlib.Core.Path.{_≡_, refl}
 use mathlib.Core.Bool.{Bool, true, false, not, _&&_}
 use mathlib.Core.List.{List, []}
-use Prim.Native.Nat.{ℕ, _+_, _/_, _<_, _≤_}
+use Prim.Native.Nat.{ℕ, _+_, _-_, _/_, _<_, _≤_}
 use native.Mathlib.Omega.{arith}
 use lib.Dec.{eqb}
 use lib.ListN.{length, getD}
@@ -13,12 +13,12 @@ use Rattle.wal_types.specs.Settings.{is-fcntl}
 use Rattle.wal_types.specs.Memory.{Memory, Process, slot-bit}
 use Rattle.wal_types.specs.Store.{apply}
 use Rattle.reader_slots.specs.declared.slots.Slot.{Slot}
-use Rattle.reader_slots.specs.declared.slots.Slot.the-variants.{Nothing}
-use Rattle.reader_slots.specs.Slots.{held, is-free, granted}
+use Rattle.reader_slots.specs.declared.slots.Slot.the-variants.{At, Nothing}
+use Rattle.reader_slots.specs.Slots.{held, is-free, granted, empty-slots}
 use Rattle.reader_slots.specs.Search.{lowest-slot}
-use Rattle.reader_slots.proofs.Emptied.{stores-nothing}
+use Rattle.reader_slots.proofs.Emptied.{stores-nothing, starts-at}
 use Rattle.reader_slots.proofs.Kept.{SlotSame, aside-same, over-aside, picked-free}
-use Rattle.reader_slots.proofs.Lowest.{lowest-nothing, lowest-same}
+use Rattle.reader_slots.proofs.Lowest.{lowest-nothing, lowest-same, lowest-at, found-below}
 use Rattle.reader_register.specs.Register.{available, reclaimable, reclaim-all, first-slot, second-slot}
 
 -- a stale slot, once free, can be taken
@@ -43,6 +43,10 @@ module _ (n : ℕ) (mode : SharedWalOwnershipMode) (bytes : List ℕ) (m : Memor
   -- where none is stale, the reclaim stores nothing
   pub nothing-reclaimed : stale-slot ≡ Nothing → reclaim-all n mode bytes p m ≡ []
   nothing-reclaimed e = stores-nothing mode stale n 0 m (lowest-nothing (stale m) n 0 e)
+
+  -- and where one is, it starts at the lowest
+  pub reclaimed-from : (i : ℕ) → stale-slot ≡ At i → reclaim-all n mode bytes p m ≡ empty-slots mode stale (n - i) i m
+  reclaimed-from i e = let b = found-below (stale m) n i e in starts-at mode stale n 0 i (n - i) m (omega arith) (omega arith) (lowest-at (stale m) n 0 i e .1)
 
   module _ (words : (j : ℕ) → j < n → j / 64 < length (m .bitmap)) (none-free : first-slot n bytes m p ≡ Nothing) where
     abbrev reclaimed : Memory

@@ -114,6 +114,7 @@ pub fn register_checked(
     };
     stale::reclaim_stale_reader_slots(
         n,
+        slot,
         mode,
         bitmap,
         reader_frames,

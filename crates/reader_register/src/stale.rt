@@ -5,12 +5,13 @@ use reader_slots::slots::Slot;
 use wal_types::SharedOwnerRecord;
 use wal_types::SharedWalOwnershipMode;
 ghost use mathlib.Core.Path.{_≡_};
-ghost use Prim.Native.Nat.{_+_, _/_, _<_, _≤_};
+ghost use Prim.Native.Nat.{_+_, _-_, _/_, _<_, _≤_};
 ghost use lib.ListN.{length};
 ghost use Rattle.wal_types.specs.Store.{apply};
+ghost use Rattle.reader_slots.specs.Slots.{empty-slots};
 ghost use Rattle.reader_slots.specs.Search.{lowest-slot};
 ghost use Rattle.reader_slots.specs.Inner.{emptied-if, SlotsBecome};
-ghost use Rattle.reader_register.specs.Register.{reclaimable, reclaim-all};
+ghost use Rattle.reader_register.specs.Register.{reclaimable};
 ghost use Rattle.reader_register.specs.Inner.{stale-cell, stale-by};
 
 // A slot that can be reclaimed: its bit is 0, it is not held here, and it is granted. In ProcessScopedFcntl mode a slot
@@ -89,9 +90,10 @@ fn try_reclaim_stale_reader_slot(
     slots::empty_slot(mode, bitmap, reader_frames, reader_owners, slot);
 }
 
-// Looks at every slot once, and empties the stale ones.
+// Empties the stale slots, of those from the first stale one on.
 pub fn reclaim_stale_reader_slots(
     n: usize,
+    first: usize,
     mode: SharedWalOwnershipMode,
     bitmap: &mut [u64],
     reader_frames: &mut [u64],
@@ -99,10 +101,10 @@ pub fn reclaim_stale_reader_slots(
     local_readers: &[u64],
     card: &[u8],
 )
-    requires { ⌜ (n ≤ 256) × (((n + 63) / 64 ≤ length (now bitmap)) × ((n ≤ length (now «reader_frames»)) × ((n ≤ length (now «reader_owners»)) × ((n ≤ length (now «local_readers»)) × (length (now card) ≡ n))))) ⌝ }
-    ensures { λ _. ⌜ SlotsBecome (λ m p. apply (reclaim-all n mode (now (card .entry)) p m) m) (now (bitmap .entry)) (now («reader_frames» .entry)) (now («reader_owners» .entry)) (now («local_readers» .entry)) (now (bitmap .exit)) (now («reader_frames» .exit)) (now («reader_owners» .exit)) ⌝ }
+    requires { ⌜ (first ≤ n) × ((n ≤ 256) × (((n + 63) / 64 ≤ length (now bitmap)) × ((n ≤ length (now «reader_frames»)) × ((n ≤ length (now «reader_owners»)) × ((n ≤ length (now «local_readers»)) × (length (now card) ≡ n)))))) ⌝ }
+    ensures { λ _. ⌜ SlotsBecome (λ m p. apply (empty-slots mode (reclaimable mode (now (card .entry)) p) (n - first) first m) m) (now (bitmap .entry)) (now («reader_frames» .entry)) (now («reader_owners» .entry)) (now («local_readers» .entry)) (now (bitmap .exit)) (now («reader_frames» .exit)) (now («reader_owners» .exit)) ⌝ }
 {
-    for slot in 0..n {
+    for slot in first..n {
         try_reclaim_stale_reader_slot(
             mode,
             bitmap,

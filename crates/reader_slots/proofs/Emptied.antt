@@ -2,7 +2,9 @@
 use mathlib.Core.Path.{_≡_, refl, sym, _∙_}
 use mathlib.Core.Bool.{Bool, false}
 use mathlib.Core.List.{List, []}
+use mathlib.Core.Logic.{inl, inr}
 use Prim.Native.Nat.{ℕ, zero, suc, _+_, _/_, _%_, _<_, _≤_}
+use native.Mathlib.Nat.{eq-or-lt-of-le}
 use native.Mathlib.Omega.{arith}
 use lib.ListN.{getD, set}
 use Rattle.wal_types.specs.declared.SharedWalOwnershipMode.{SharedWalOwnershipMode}
@@ -56,3 +58,13 @@ pub stores-nothing : (mode : SharedWalOwnershipMode) (test : Memory → ℕ → 
 unfolding empty-slots
 stores-nothing mode test zero i m h = refl
 stores-nothing mode test (suc left) i m h = rw (h i (omega arith) (omega arith)) (stores-nothing mode test left (i + 1) m (λ j a b. h j (omega arith) (omega arith)))
+
+-- a pass that picks no slot before j starts there, with so many slots left
+pub starts-at : (mode : SharedWalOwnershipMode) (test : Memory → ℕ → Bool) (left i j rest : ℕ) (m : Memory) → i + left ≡ j + rest → i ≤ j → ((k : ℕ) → i ≤ k → k < j → test m k ≡ false) → empty-slots mode test left i m ≡ empty-slots mode test rest j m
+unfolding empty-slots
+starts-at mode test zero i j rest m e l h = let z : rest ≡ 0 = omega arith in rw z
+starts-at mode test (suc left) i j rest m e l h =
+    elim (eq-or-lt-of-le l) [
+      | inl q ↦ (let z : rest ≡ suc left = omega arith in rw (z, ← q))
+      | inr q ↦ rw (h i (omega arith) q) (starts-at mode test left (i + 1) j rest m (omega arith) (omega arith) (λ k a b. h k (omega arith) b))
+    ]

@@ -55,7 +55,7 @@ returns-2 : tie.Need-returns-2
 returns-2 c = takes-none _ _ _ _ _ _ _ _ _ (c .before .before .before .before .before .before .before .before .before .before .before .before .before .before .before .before .pre .1 .0) (sym (c .before .before .before .before .before .before .before .before .available-slot .ensures) ∙ c .before .before .before .before .before .before .enum-told .given .1) _ (sym (c .before .before .stale-slot .ensures)) (c .enum-told2 .given .1)
 
 reclaim-stale-reader-slots-requires : tie.Need-reclaim-stale-reader-slots-requires
-reclaim-stale-reader-slots-requires c κs = search needs
+reclaim-stale-reader-slots-requires c κs = let q = found-below _ _ _ (sym (c .before .before .before .before .before .before .before .stale-slot .ensures) ∙ c .before .before .before .before .before .slot2 .given .1) in omega arith
 
 take-slot-requires-2 : tie.Need-take-slot-requires-2
 take-slot-requires-2 c κs = let q = found-below _ _ _ (sym (c .before .before .before .before .before .before .before .before .before .before .before .before .before .before .before .before .before .before .stale-slot .ensures) ∙ c .before .before .before .before .before .before .before .before .before .before .before .before .before .before .before .before .slot2 .given .1) in omega (arith, q, c .before .before .before .before .before .before .before .before .before .before .before .before .before .before .before .before .before .before .before .before .before .before .before .before .before .before .before .before .before .before .before .before .pre, c .before .before .before .before .before .before .before .before .before .before .reclaim-stale-reader-slots .kept)

@@ -1,25 +1,24 @@
 -- The loop's invariant: what is left of the reclaim, from the memory now, leaves what the whole leaves.
-use native.Mathlib.Nat.{sub-zero}
 use Rattle.reader_slots.proofs.Emptied.{emptied, emptied-done, emptied-next, emptied-whole}
 use Rattle.reader_register.specs.Register.{reclaimable}
 use Rattle.reader_slots.specs.Slots.{slots-in, locals-in}
 use Rattle.wal_types.specs.Memory.{Memory, Process}
 use lib.ListN.{length}
 use Prim.Native.Nat.{_-_, _≤_}
-use mathlib.Core.Path.{_≡_, _∙_}
+use mathlib.Core.Path.{_≡_, refl, _∙_}
 use native.Mathlib.Omega.{arith}
 use borrow.Author.Needs.{needs}
 use Rattle.reader_register.proofs.stale.reclaim_stale_reader_slots.Statement.{statement}
 use Rattle.reader_register.proofs.stale.reclaim_stale_reader_slots.Tie as tie
 
 abbrev Inv-loop : tie.InvT-loop
-Inv-loop n mode bitmap₀ reader-frames₀ reader-owners₀ local-readers card slot₀ bitmap reader-frames reader-owners slot = (slot ≤ n) × (((length bitmap ≡ length bitmap₀) × ((length reader-frames ≡ length reader-frames₀) × (length reader-owners ≡ length reader-owners₀))) × ((z : Memory) (p : Process) → emptied mode (reclaimable mode card (locals-in p local-readers)) (n - slot) slot (slots-in z bitmap reader-frames reader-owners) ≡ emptied mode (reclaimable mode card (locals-in p local-readers)) n 0 (slots-in z bitmap₀ reader-frames₀ reader-owners₀)))
+Inv-loop n first mode bitmap₀ reader-frames₀ reader-owners₀ local-readers card slot₀ bitmap reader-frames reader-owners slot = (slot ≤ n) × (((length bitmap ≡ length bitmap₀) × ((length reader-frames ≡ length reader-frames₀) × (length reader-owners ≡ length reader-owners₀))) × ((z : Memory) (p : Process) → emptied mode (reclaimable mode card (locals-in p local-readers)) (n - slot) slot (slots-in z bitmap reader-frames reader-owners) ≡ emptied mode (reclaimable mode card (locals-in p local-readers)) (n - first) first (slots-in z bitmap₀ reader-frames₀ reader-owners₀)))
 
 abbrev μ-loop : tie.MeasureT-loop
-μ-loop n mode bitmap₀ reader-frames₀ reader-owners₀ local-readers card slot₀ bitmap reader-frames reader-owners slot = n - slot
+μ-loop n first mode bitmap₀ reader-frames₀ reader-owners₀ local-readers card slot₀ bitmap reader-frames reader-owners slot = n - slot
 
 loop-holds : tie.Need-loop-holds Inv-loop μ-loop
-loop-holds c = (omega arith, ((omega arith, (omega arith, omega arith)), λ z p. rw sub-zero))
+loop-holds c = (omega arith, ((omega arith, (omega arith, omega arith)), λ z p. refl))
 
 try-reclaim-stale-reader-slot-requires :
     tie.Need-try-reclaim-stale-reader-slot-requires Inv-loop μ-loop
