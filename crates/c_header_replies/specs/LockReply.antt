@@ -2,8 +2,7 @@
 use mathlib.Core.Path.{_≡_}
 use Prim.Native.Nat.{ℕ}
 use Rattle.wal_types.specs.declared.Header.{Header}
-use Rattle.wal_types.specs.Memory.{Memory, Process, with-header}
-use Rattle.wal_types.specs.Store.{header-with, writer-owner, checkpoint-owner}
+use Rattle.wal_types.specs.Memory.{Memory, Process, with-header, header-with, writer-owner, checkpoint-owner}
 use Rattle.wal_types.specs.Call.{Call, Done, after}
 use Rattle.header_locks.specs.declared.Lock.{Lock}
 use Rattle.header_locks.specs.declared.Acquire.{Acquire}

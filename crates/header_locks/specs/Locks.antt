@@ -7,8 +7,7 @@ use lib.Dec.{eqb, ltb}
 use Rattle.wal_types.specs.declared.Header.{Header}
 use Rattle.wal_types.specs.declared.SharedWalOwnershipMode.{SharedWalOwnershipMode}
 use Rattle.wal_types.specs.Settings.{is-fcntl}
-use Rattle.wal_types.specs.Memory.{Memory, Process, with-header, with-local-writer, with-local-checkpoint}
-use Rattle.wal_types.specs.Store.{HeaderCell, to-header, writer-owner, checkpoint-owner}
+use Rattle.wal_types.specs.Memory.{Memory, Process, with-header, with-local-writer, with-local-checkpoint, HeaderCell, to-header, writer-owner, checkpoint-owner}
 use Rattle.wal_types.specs.Refusal.{Test, _if_, not-held, other-owner, no-owner, card}
 use Rattle.wal_types.specs.Call.{Call, Carried, Answer, refused, ok, flag, unless, after, done}
 use Rattle.header_locks.specs.declared.Lock.{Lock}

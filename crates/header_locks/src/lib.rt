@@ -7,7 +7,7 @@ use wal_types::refusal;
 ghost use mathlib.Core.Path.{_≡_};
 ghost use mathlib.Core.Bool.{not, _&&_};
 ghost use lib.Dec.{eqb};
-ghost use Rattle.wal_types.specs.Store.{header-with};
+ghost use Rattle.wal_types.specs.Memory.{header-with};
 ghost use Rattle.wal_types.specs.Settings.{is-fcntl};
 ghost use Rattle.header_locks.specs.Locks.{owner-cell, try-acquire, release, acquire-answer, acquire-header, acquire-local, release-answer, release-header, release-local, LockCall};
 

@@ -3,8 +3,8 @@ use mathlib.Core.Path.{_≡_}
 use Prim.Native.Nat.{ℕ, _+_, _%_, _^_, max}
 use lib.Dec.{leb}
 use Rattle.wal_types.specs.declared.Header.{Header}
-use Rattle.wal_types.specs.Memory.{Memory, Process, with-header}
-use Rattle.wal_types.specs.Store.{to-header, max-frame, nbackfills-cell, transaction-count, visibility-generation, checkpoint-seq, checkpoint-epoch, checksum-1, checksum-2, Piece, one, when, _then_}
+use Rattle.wal_types.specs.Memory.{Memory, Process, with-header, to-header, max-frame, nbackfills-cell, transaction-count, visibility-generation, checkpoint-seq, checkpoint-epoch, checksum-1, checksum-2}
+use Rattle.wal_types.specs.Store.{Piece, one, when, _then_}
 use Rattle.wal_types.specs.Call.{Call, Carried, Answer, ok, value, does, after, done}
 
 -- The next number of a counter of some bits: the greatest goes to 0.

@@ -1,7 +1,7 @@
 -- The header's cells that a record and a rollback work on, apart from the rest of it. Assumes nothing.
 use Prim.Native.Nat.{ℕ}
 use Rattle.wal_types.specs.declared.Header.{Header}
-use Rattle.wal_types.specs.Store.{HeaderCell, if-at, header-with, frame-index-blocks, frame-index-len, frame-index-overflowed}
+use Rattle.wal_types.specs.Memory.{HeaderCell, if-at, header-with, frame-index-blocks, frame-index-len, frame-index-overflowed}
 use Rattle.index_end.specs.declared.cells.IndexCells.{IndexCells}
 
 -- these cells of a header

@@ -3,7 +3,7 @@ use crate::cells::IndexCells;
 ghost use mathlib.Core.Path.{_≡_};
 ghost use Prim.Native.Nat.{_≤_};
 ghost use lib.ListN.{length};
-ghost use Rattle.wal_types.specs.Store.{frame-index-len};
+ghost use Rattle.wal_types.specs.Memory.{frame-index-len};
 ghost use Rattle.index_end.specs.Cells.{cells-with};
 ghost use Rattle.index_end.specs.Kept.{kept-of};
 

@@ -6,7 +6,7 @@ use wal_types::Header;
 ghost use mathlib.Core.Path.{_≡_};
 ghost use Prim.Native.Nat.{_+_, _<_, _≤_};
 ghost use lib.ListN.{length};
-ghost use Rattle.wal_types.specs.Store.{frame-index-len, frame-index-overflowed};
+ghost use Rattle.wal_types.specs.Memory.{frame-index-len, frame-index-overflowed};
 ghost use Rattle.index_end.specs.Cells.{cells-with};
 ghost use Rattle.index_end.specs.Place.{started, placed, out-of-order};
 

@@ -7,8 +7,8 @@ use lib.Dec.{ltb}
 use lib.ListN.{length, getD, take, drop}
 use Rattle.wal_types.specs.declared.Header.{Header}
 use Rattle.wal_types.specs.Settings.{capacity-in-limits, max-blocks-in-limits, block-entries, block-cells, entries-for, cells-for}
-use Rattle.wal_types.specs.Memory.{Memory, Process, with-header, with-index}
-use Rattle.wal_types.specs.Store.{Store, to-hash, Piece, _then_}
+use Rattle.wal_types.specs.Memory.{Memory, Process, with-header, with-index, Store, to-hash}
+use Rattle.wal_types.specs.Store.{Piece, _then_}
 use Rattle.wal_types.specs.Refusal.{Test, _if_, number, settings, short-memory}
 use Rattle.wal_types.specs.Call.{Call, Carried, Answer, after, done}
 use Rattle.index_hash.specs.declared.Cell.{Cell}

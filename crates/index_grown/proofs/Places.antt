@@ -11,7 +11,7 @@ use lib.Seq.{getD-set-same}
 use borrow.Author.Tests.{leb-false, ltb-false}
 use Rattle.wal_types.specs.declared.Header.{Header}
 use Rattle.wal_types.specs.Settings.{entries-for}
-use Rattle.wal_types.specs.Store.{frame-index-len, frame-index-overflowed, frame-index-blocks}
+use Rattle.wal_types.specs.Memory.{frame-index-len, frame-index-overflowed, frame-index-blocks}
 use Rattle.index_hash.specs.Block.{cleared, inserted, built}
 use Rattle.index_hash.proofs.Built.{built-none, built-next}
 use Rattle.index_end.specs.declared.cells.IndexCells.{IndexCells}

@@ -10,8 +10,7 @@ use native.Mathlib.Omega.{arith}
 use lib.ListN.{length, getD, set, length-set}
 use lib.Seq.{getD-set-same, getD-set-other}
 use Rattle.wal_types.specs.declared.Header.{Header}
-use Rattle.wal_types.specs.Memory.{Memory, Process}
-use Rattle.wal_types.specs.Store.{frame-index-len, frame-index-overflowed}
+use Rattle.wal_types.specs.Memory.{Memory, Process, frame-index-len, frame-index-overflowed}
 use Rattle.wal_types.specs.Call.{Pair, pair, refused, stored, dropped, Done, done, after}
 use Rattle.index_hash.specs.declared.Cell.{Cell}
 use Rattle.index_hash.specs.declared.Cell.the-variants.{Empty, Full}

@@ -8,8 +8,7 @@ use native.Mathlib.Nat.{eq-or-lt-of-le}
 use native.Mathlib.Omega.{arith}
 use lib.ListN.{length}
 use Rattle.wal_types.specs.declared.Header.{Header}
-use Rattle.wal_types.specs.Memory.{Memory, Process}
-use Rattle.wal_types.specs.Store.{frame-index-len, header-with}
+use Rattle.wal_types.specs.Memory.{Memory, Process, frame-index-len, header-with}
 use Rattle.wal_types.specs.Call.{refused, kept, Done, done, after}
 use Rattle.index_hash.specs.Block.{built}
 use Rattle.index_hash.proofs.Built.{built-length}

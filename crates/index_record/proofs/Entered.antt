@@ -8,8 +8,8 @@ use lib.ListN.{length, take, drop, set, replicate, getD, length-append, length-d
 use lib.Seq.{set-at, length-take-le, append-snoc}
 use borrow.Author.Tests.{eq-eqb, ne-eqb}
 use Rattle.wal_types.specs.declared.Header.{Header}
-use Rattle.wal_types.specs.Memory.{Memory}
-use Rattle.wal_types.specs.Store.{to-header, to-page, to-frame, frame-index-len, header-with, apply, one, when, _then_}
+use Rattle.wal_types.specs.Memory.{Memory, to-header, to-page, to-frame, frame-index-len, header-with}
+use Rattle.wal_types.specs.Store.{apply, one, when, _then_}
 use Rattle.wal_types.proofs.Stores.{then-leaves, when-leaves, when-not}
 use Rattle.index_hash.specs.declared.Cell.{Cell}
 use Rattle.index_hash.specs.declared.Cell.the-variants.{Empty}

@@ -7,7 +7,7 @@ use lib.Dec.{leb}
 use borrow.Author.Tests.{leb-false}
 use Rattle.wal_types.specs.declared.Header.{Header}
 use Rattle.wal_types.specs.Settings.{entries-for}
-use Rattle.wal_types.specs.Store.{frame-index-len, frame-index-overflowed, frame-index-blocks}
+use Rattle.wal_types.specs.Memory.{frame-index-len, frame-index-overflowed, frame-index-blocks}
 use Rattle.index_end.specs.declared.cells.IndexCells.{IndexCells}
 use Rattle.index_end.specs.declared.place.Place.the-variants.{AtEnd, NoPlace}
 use Rattle.index_find.specs.Index.{HasRoom}

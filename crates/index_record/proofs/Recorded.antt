@@ -6,8 +6,8 @@ use Prim.Native.Nat.{ℕ, _+_, _*_, _≤_}
 use lib.ListN.{length, set}
 use borrow.Author.Tests.{eq-eqb, ne-eqb}
 use Rattle.wal_types.specs.declared.Header.{Header}
-use Rattle.wal_types.specs.Memory.{Memory, Process}
-use Rattle.wal_types.specs.Store.{to-header, frame-index-len, frame-index-overflowed, frame-index-blocks, apply, one, when, _then_}
+use Rattle.wal_types.specs.Memory.{Memory, Process, to-header, frame-index-len, frame-index-overflowed, frame-index-blocks}
+use Rattle.wal_types.specs.Store.{apply, one, when, _then_}
 use Rattle.wal_types.specs.Refusal.{Test, lowest, _if_, frame-order, hash-full}
 use Rattle.wal_types.specs.Call.{refused, stored, dropped, done, after, unless}
 use Rattle.wal_types.proofs.Stores.{then-leaves}

@@ -8,8 +8,8 @@ use lib.Dec.{eqb, ltb}
 use lib.ListN.{length, getD, set}
 use borrow.Author.Tests.{eq-eqb, ne-eqb, lt-ltb, le-ltb}
 use Rattle.wal_types.specs.declared.Header.{Header}
-use Rattle.wal_types.specs.Memory.{Memory, Process}
-use Rattle.wal_types.specs.Store.{to-header, frame-index-len, header-with, apply, one, _then_}
+use Rattle.wal_types.specs.Memory.{Memory, Process, to-header, frame-index-len, header-with}
+use Rattle.wal_types.specs.Store.{apply, one, _then_}
 use Rattle.wal_types.specs.Refusal.{Test}
 use Rattle.wal_types.specs.Call.{Call, refused, kept, does, done, after}
 use Rattle.wal_types.proofs.Stores.{then-leaves, when-leaves, when-not}

@@ -5,8 +5,7 @@ use mathlib.Core.List.{List}
 use Prim.Native.Nat.{ℕ, _+_, _<_}
 use lib.ListN.{length, set}
 use Rattle.wal_types.specs.declared.Header.{Header}
-use Rattle.wal_types.specs.Memory.{Memory, Process}
-use Rattle.wal_types.specs.Store.{frame-index-len}
+use Rattle.wal_types.specs.Memory.{Memory, Process, frame-index-len}
 use Rattle.wal_types.specs.Call.{refused, stored, dropped, Done, done, after}
 use Rattle.index_hash.specs.Block.{cleared, inserted}
 use Rattle.index_record.specs.declared.record.Plan.{Plan}

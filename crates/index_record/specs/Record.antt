@@ -3,8 +3,8 @@ use mathlib.Core.Bool.{Bool, true, false, not, _&&_, cond}
 use mathlib.Core.List.{List, [], _∷_, _++_}
 use Prim.Native.Nat.{ℕ, _+_}
 use lib.Dec.{eqb}
-use Rattle.wal_types.specs.Memory.{Memory}
-use Rattle.wal_types.specs.Store.{to-header, frame-index-len, frame-index-overflowed, frame-index-blocks, to-page, to-frame, Piece, one, when, _then_}
+use Rattle.wal_types.specs.Memory.{Memory, to-header, frame-index-len, frame-index-overflowed, frame-index-blocks, to-page, to-frame}
+use Rattle.wal_types.specs.Store.{Piece, one, when, _then_}
 use Rattle.wal_types.specs.Refusal.{Test, _if_, frame-order, hash-full}
 use Rattle.wal_types.specs.Call.{Call, Answer, refused, stored, dropped, does, unless}
 use Rattle.index_hash.specs.declared.Cell.{Cell}

@@ -2,8 +2,8 @@
 use mathlib.Core.Bool.{not}
 use Prim.Native.Nat.{ℕ, _-_}
 use lib.Dec.{eqb, ltb}
-use Rattle.wal_types.specs.Memory.{Memory}
-use Rattle.wal_types.specs.Store.{to-header, frame-index-len, Piece, one, when, _then_}
+use Rattle.wal_types.specs.Memory.{Memory, to-header, frame-index-len}
+use Rattle.wal_types.specs.Store.{Piece, one, when, _then_}
 use Rattle.wal_types.specs.Call.{Call, Answer, refused, kept, does, unless}
 use Rattle.index_record.specs.declared.rollback.RollbackAnswer.{RollbackAnswer}
 use Rattle.index_record.specs.declared.rollback.RollbackAnswer.the-variants.{Kept, Refused}

@@ -7,8 +7,8 @@ use native.Mathlib.Omega.{arith}
 use types.Run.{OneOf}
 use denote.Enum.Declared.{tagOf}
 use Rattle.wal_types.specs.declared.SharedWalOwnershipMode.{SharedWalOwnershipMode}
-use Rattle.wal_types.specs.Memory.{Memory, Process}
-use Rattle.wal_types.specs.Store.{Store, apply}
+use Rattle.wal_types.specs.Memory.{Memory, Process, Store}
+use Rattle.wal_types.specs.Store.{apply}
 use Rattle.wal_types.specs.Refusal.{lowest}
 use Rattle.wal_types.specs.Call.{Answer, refused, value, if-refused, if-frame, Outcome, accepted-or, Done, done, after}
 use Rattle.reader_probe.specs.declared.live.Floor.{Floor}

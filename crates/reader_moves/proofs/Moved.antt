@@ -11,8 +11,8 @@ use borrow.Author.Tests.{leb-false, ltb-false, eqb-true, eqb-false, not-false}
 use Rattle.wal_types.specs.declared.SharedWalOwnershipMode.{SharedWalOwnershipMode}
 use Rattle.wal_types.specs.declared.SharedWalOwnershipMode.the-variants.{LinuxOfd, ProcessScopedFcntl}
 use Rattle.wal_types.specs.Settings.{slots-in-limits, unused}
-use Rattle.wal_types.specs.Memory.{Memory, Process, slot-bit}
-use Rattle.wal_types.specs.Store.{apply, to-reader-frame, one}
+use Rattle.wal_types.specs.Memory.{Memory, Process, slot-bit, to-reader-frame}
+use Rattle.wal_types.specs.Store.{apply, one}
 use Rattle.wal_types.specs.Refusal.{lowest}
 use Rattle.wal_types.specs.Call.{ok, refused, slot-taken, Done, after, does}
 use Rattle.reader_bitmap.specs.Bit.{set-bit}

@@ -7,8 +7,8 @@ use lib.Dec.{eqb, leb, ltb}
 use lib.ListN.{length, getD}
 use Rattle.wal_types.specs.declared.SharedWalOwnershipMode.{SharedWalOwnershipMode}
 use Rattle.wal_types.specs.Settings.{slots-in-limits, unused, is-fcntl}
-use Rattle.wal_types.specs.Memory.{Memory, Process}
-use Rattle.wal_types.specs.Store.{to-reader-frame, one}
+use Rattle.wal_types.specs.Memory.{Memory, Process, to-reader-frame}
+use Rattle.wal_types.specs.Store.{one}
 use Rattle.wal_types.specs.Refusal.{Test, _if_, settings, short-memory, slot-number, not-held, other-owner, no-owner, unused-mark, shared-slot}
 use Rattle.wal_types.specs.Call.{Call, Carried, Answer, refused, slot-taken, ok, does, unless, after, done}
 use Rattle.reader_moves.specs.declared.update.Update.{Update}

@@ -7,8 +7,8 @@ use native.Mathlib.Omega.{arith}
 use lib.Dec.{leb, ltb}
 use borrow.Author.Tests.{leb-true, ltb-false}
 use Rattle.wal_types.specs.Settings.{slots-in-limits, words-for}
-use Rattle.wal_types.specs.Memory.{Memory, Process}
-use Rattle.wal_types.specs.Store.{Store, apply, put}
+use Rattle.wal_types.specs.Memory.{Memory, Process, Store, put}
+use Rattle.wal_types.specs.Store.{apply}
 use Rattle.wal_types.specs.Refusal.{Test, _if_, lowest, settings, short-memory}
 use Rattle.wal_types.specs.Call.{Call, refused, unless, after, done}
 use Rattle.reader_slots.specs.Slots.{shorter}

@@ -12,8 +12,8 @@ use lib.Seq.{getD-set-same, getD-set-other, set-out}
 use Rattle.wal_types.specs.declared.SharedWalOwnershipMode.{SharedWalOwnershipMode}
 use Rattle.wal_types.specs.declared.SharedWalOwnershipMode.the-variants.{LinuxOfd, ProcessScopedFcntl}
 use Rattle.wal_types.specs.Settings.{unused}
-use Rattle.wal_types.specs.Memory.{Memory, bit-at, slot-bit}
-use Rattle.wal_types.specs.Store.{Store, to-reader-frame, to-reader-owner, put, apply, when}
+use Rattle.wal_types.specs.Memory.{Memory, bit-at, slot-bit, Store, to-reader-frame, to-reader-owner, put}
+use Rattle.wal_types.specs.Store.{apply, when}
 use Rattle.reader_bitmap.specs.Bit.{set-bit, clear-bit}
 use Rattle.reader_bitmap.proofs.Bits.{set-same, set-other, clear-other}
 use Rattle.reader_slots.specs.Slots.{free-bit, take-bit, take-slot, empty-slot, empty-slots}

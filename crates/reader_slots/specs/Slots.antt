@@ -9,9 +9,9 @@ use Rattle.wal_types.specs.declared.SharedReadMark.{SharedReadMark}
 use Rattle.wal_types.specs.declared.SharedWalOwnershipMode.{SharedWalOwnershipMode}
 use Rattle.wal_types.specs.declared.SharedWalOwnershipMode.the-variants.{LinuxOfd, ProcessScopedFcntl}
 use Rattle.wal_types.specs.Settings.{words-for, unused}
-use Rattle.wal_types.specs.Memory.{Memory, Process, with-slots, with-local-readers, slot-bit, no-mark}
+use Rattle.wal_types.specs.Memory.{Memory, Process, with-slots, with-local-readers, slot-bit, no-mark, to-bitmap, to-reader-frame, to-reader-owner}
 use Rattle.wal_types.specs.Call.{Call, Carried, Answer, after, done}
-use Rattle.wal_types.specs.Store.{to-bitmap, to-reader-frame, to-reader-owner, Piece, one, when, _then_}
+use Rattle.wal_types.specs.Store.{Piece, one, when, _then_}
 use Rattle.reader_bitmap.specs.Bit.{set-bit, clear-bit}
 
 -- Refusal 2: fewer bitmap words, slot frames, slot owners or local owners than n slots have.

@@ -9,8 +9,8 @@ use native.Mathlib.Omega.{arith}
 use lib.Dec.{leb}
 use lib.ListN.{length}
 use Rattle.wal_types.specs.declared.Header.{Header}
-use Rattle.wal_types.specs.Memory.{Memory, Process}
-use Rattle.wal_types.specs.Store.{to-header, max-frame, checksum-1, checksum-2, transaction-count, visibility-generation, Piece, apply, one, when, _then_}
+use Rattle.wal_types.specs.Memory.{Memory, Process, to-header, max-frame, checksum-1, checksum-2, transaction-count, visibility-generation}
+use Rattle.wal_types.specs.Store.{Piece, apply, one, when, _then_}
 use Rattle.wal_types.specs.Call.{Pair, pair, Answer, Done, after}
 use Rattle.header_publish.specs.Publish.{publish-commit}
 use Rattle.header_publish.specs.Publish.{next as next-count}

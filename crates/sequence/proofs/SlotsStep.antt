@@ -10,8 +10,8 @@ use lib.Seq.{getD-set-same, getD-set-other}
 use borrow.Author.Tests.{ltb-false, leb-false}
 use Rattle.wal_types.specs.declared.SharedWalOwnershipMode.{SharedWalOwnershipMode}
 use Rattle.wal_types.specs.Settings.{unused}
-use Rattle.wal_types.specs.Memory.{Memory, Process}
-use Rattle.wal_types.specs.Store.{to-reader-frame, one}
+use Rattle.wal_types.specs.Memory.{Memory, Process, to-reader-frame}
+use Rattle.wal_types.specs.Store.{one}
 use Rattle.wal_types.specs.Refusal.{Test, lowest}
 use Rattle.wal_types.specs.Call.{Answer, refused, flag, value, slot-taken, Done, done, after, does, unless}
 use Rattle.reader_slots.specs.declared.slots.Slot.{Slot}

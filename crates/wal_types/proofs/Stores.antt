@@ -2,8 +2,8 @@
 use mathlib.Core.Path.{_≡_, refl, _∙_, ap}
 use mathlib.Core.Bool.{Bool, true, false, true≢false, false≢true}
 use mathlib.Core.List.{List, [], _∷_, _++_}
-use Rattle.wal_types.specs.Memory.{Memory}
-use Rattle.wal_types.specs.Store.{Store, put, apply, Piece, when, _then_}
+use Rattle.wal_types.specs.Memory.{Memory, Store, put}
+use Rattle.wal_types.specs.Store.{apply, Piece, when, _then_}
 
 -- the stores of two lists, one after the other
 pub apply-append : (a b : List Store) (m : Memory) → apply (a ++ b) m ≡ apply b (apply a m)

@@ -2,8 +2,8 @@
 use mathlib.Core.Bool.{Bool}
 use mathlib.Core.List.{List, []}
 use Prim.Native.Nat.{ℕ, zero, suc}
-use Rattle.wal_types.specs.Memory.{Memory, Process}
-use Rattle.wal_types.specs.Store.{Store, Piece, apply}
+use Rattle.wal_types.specs.Memory.{Memory, Process, Store}
+use Rattle.wal_types.specs.Store.{Piece, apply}
 use Rattle.wal_types.specs.Refusal.{Test, lowest}
 
 -- A page with the frame that holds it.
