@@ -1,7 +1,7 @@
 -- A call's change to shared memory is a list of single-cell stores, in order. Assumes nothing.
 use mathlib.Core.Bool.{Bool, true, false}
 use mathlib.Core.List.{List, [], _∷_, _++_}
-pub use Rattle.wal_types.specs.Memory.{Memory, Store, put, to-header, to-page, to-frame, to-hash, to-bitmap, to-reader-frame, to-reader-owner, HeaderCell, place, if-at, header-with, frame-index-blocks, frame-index-len, frame-index-overflowed, max-frame, nbackfills-cell, transaction-count, visibility-generation, checkpoint-seq, checkpoint-epoch, checksum-1, checksum-2, writer-owner, checkpoint-owner}
+use Rattle.wal_types.specs.Memory.{Memory, Store, put}
 
 -- the memory after a list of stores, the first of the list first
 abbrev pub apply : List Store → Memory → Memory
