@@ -64,7 +64,9 @@ def without_clauses(text):
 
 
 def exported(text):
-    """Each C function becomes a plain one, with a C function before it that takes slices apart."""
+    """Each C function becomes a plain one, which its crate calls, with a C function before it that takes slices apart."""
+    for called in {found.group(1) for found in EXPORTED.finditer(text)}:
+        text = re.sub(rf"(?<!fn )\b{called}\(", f"{called}_in_rattle(", text)
 
     def both(match):
         name, parameters, answer = match[1], match[2], match[3] or ""

@@ -161,23 +161,18 @@ pub extern "C" fn wal_register_db_file_reader(
 ) -> ReaderReply
     ensures { λ r. ⌜ RegistryReplied reader-reply (with-mode (mode-given mode) (λ given. register-db-file-reader n given owner (now (card .entry)))) (now (bitmap .entry)) (now («reader_frames» .entry)) (now («reader_owners» .entry)) (now («local_readers» .entry)) (now (registry .entry)) r (now (bitmap .exit)) (now («reader_frames» .exit)) (now («reader_owners» .exit)) (now («local_readers» .exit)) (now (registry .exit)) ⌝ }
 {
-    let records = registry.len();
-    let seen = reader_registry::look_through(registry, n, DB_FILE_READER_FRAME);
-    let step = registry_steps::register_reader_for_snapshot(
+    wal_register_reader_for_snapshot(
         n,
         mode,
         bitmap,
         reader_frames,
         reader_owners,
         local_readers,
-        records,
-        seen,
+        registry,
         card,
         owner,
         DB_FILE_READER_FRAME,
-    );
-    reader_registry::put_record(registry, step.place, step.item);
-    step.reply
+    )
 }
 
 // Releases a shared mark: a holder less, and the last one empties the slot. Answers 0, or the number of the refusal.

@@ -227,3 +227,7 @@ module _ (registry : List SharedReadMark) (n mark : ℕ) (found : Found) (e : fo
       is-not : (r : Record) → T (not (is-found r)) → empty-unless r n registry ≡ empty-record n registry
       is-not (At i) h = absurd h
       is-not Nothing h = refl
+
+-- a scan for a slot tells whether one of the first n records is in use for it
+pub slot-told : (registry : List SharedReadMark) (n slot : ℕ) (wanted : Wanted) (found : Found) (told : Bool) → wanted ≡ Slot slot → found ≡ found-of (picks wanted) registry (min n (length registry)) → told ≡ is-found (found .place) → told ≡ in-registry n registry slot
+slot-told registry n slot wanted found told w f t = t ∙ shared-found registry n slot found (subst (λ (k : Wanted). found ≡ found-of (picks k) registry (min n (length registry))) w f)

@@ -1,4 +1,4 @@
--- `c_readers::reader_calls::wal_register_db_file_reader` meets its contract: a walk of its MIR, printed by tools/walk. All that it knows of `look_through`, `register_reader_for_snapshot`, `put_record` is that each meets its contract. Assumes nothing.
+-- `c_readers::reader_calls::wal_register_db_file_reader` meets its contract: a walk of its MIR, printed by tools/walk. All that it knows of `wal_register_reader_for_snapshot` is that each meets its contract. Assumes nothing.
 use mathlib.Core.Path.{_≡_, refl, ap, subst}
 use Prim.Native.Nat.{ℕ, _<_, _^_, min}
 use mathlib.Core.Bool.{Bool}
@@ -48,8 +48,6 @@ use Rattle.reader_shared.specs.Shared.{register-reader-for-snapshot, register-d
 use Rattle.c_numbers.specs.Mode.{mode-given, with-mode}
 use Rattle.c_reader_replies.specs.ReaderReply.{reader-reply}
 use Rattle.c_readers.specs.ReaderReplied.{RegistryReplied}
-use Rattle.reader_marks.specs.InnerScan.{seen-of}
-use Rattle.c_readers.specs.InnerSteps.{PlanStep}
 use Rattle.wal_types.specs.declared.SharedReadMark.{SharedReadMark}
 use Rattle.wal_types.proofs.SharedReadMark as SharedReadMarkT
 use Rattle.wal_types.proofs.SharedReadMark.Laws as SharedReadMarkL
@@ -59,28 +57,10 @@ use Rattle.wal_types.proofs.SharedOwnerRecord.Laws as SharedOwnerRecordL
 use Rattle.c_reader_replies.specs.declared.ReaderReply.{ReaderReply}
 use Rattle.c_reader_replies.proofs.ReaderReply as ReaderReplyT
 use Rattle.c_reader_replies.proofs.ReaderReply.Laws as ReaderReplyL
-use Rattle.reader_marks.specs.declared.Seen.{Seen}
-use Rattle.reader_marks.proofs.Seen as SeenT
-use Rattle.reader_marks.proofs.Seen.Laws as SeenL
-use Rattle.reader_marks.specs.declared.Record.{Record}
-use Rattle.reader_marks.proofs.Record as RecordT
-use Rattle.reader_marks.proofs.Record.Laws as RecordL
-use Rattle.c_reader_replies.specs.declared.ShareStep.{ShareStep}
-use Rattle.c_reader_replies.proofs.ShareStep as ShareStepT
-use Rattle.c_reader_replies.proofs.ShareStep.Laws as ShareStepL
-use Rattle.c_readers.proofs.ReaderReplies.{plan-taken}
-use Rattle.reader_registry.proofs.look_through as look-through-fn
-use Rattle.reader_registry.proofs.look_through.Symbol as look-through-def
-use Rattle.reader_registry.proofs.look_through.Symbol.{name as #reader-registry·look-through}
-use Rattle.reader_registry.proofs.look_through.Met as look-through-thm
-use Rattle.c_readers.proofs.registry_steps.register_reader_for_snapshot as register-reader-for-snapshot-fn
-use Rattle.c_readers.proofs.registry_steps.register_reader_for_snapshot.Symbol as register-reader-for-snapshot-def
-use Rattle.c_readers.proofs.registry_steps.register_reader_for_snapshot.Symbol.{name as #c-readers·registry-steps·register-reader-for-snapshot}
-use Rattle.c_readers.proofs.registry_steps.register_reader_for_snapshot.Met as register-reader-for-snapshot-thm
-use Rattle.reader_registry.proofs.put_record as put-record-fn
-use Rattle.reader_registry.proofs.put_record.Symbol as put-record-def
-use Rattle.reader_registry.proofs.put_record.Symbol.{name as #reader-registry·put-record}
-use Rattle.reader_registry.proofs.put_record.Met as put-record-thm
+use Rattle.c_readers.proofs.reader_calls.wal_register_reader_for_snapshot as wal-register-reader-for-snapshot-fn
+use Rattle.c_readers.proofs.reader_calls.wal_register_reader_for_snapshot.Symbol as wal-register-reader-for-snapshot-def
+use Rattle.c_readers.proofs.reader_calls.wal_register_reader_for_snapshot.Symbol.{name as #c-readers·reader-calls·wal-register-reader-for-snapshot}
+use Rattle.c_readers.proofs.reader_calls.wal_register_reader_for_snapshot.Met as wal-register-reader-for-snapshot-thm
 use Rattle.c_readers.proofs.reader_calls.wal_register_db_file_reader.Key.{name as #c-readers·reader-calls·wal-register-db-file-reader}
 use Rattle.c_readers.proofs.reader_calls.wal_register_db_file_reader as entry
 use Rattle.c_readers.proofs.reader_calls.wal_register_db_file_reader.Statement as stated
@@ -90,14 +70,8 @@ abbrev stayed : Stays (entry.ended .signature .params) (entry.ended .kept)
 stayed = (stay-none (λ _. usize) yes, (stay-none (λ _. u32) yes, (gave-slice (0 ∷ []) tt (plain (λ _. u64)), (gave-slice (1 ∷ []) tt (plain (λ _. u64)), (gave-slice (2 ∷ []) tt (plain (λ _. u64)), (gave-slice (3 ∷ []) tt (plain (λ _. u64)), (gave-slice (4 ∷ []) tt (plain (λ _. SharedReadMarkT.the-row)), (stay-none-slice (5 ∷ []) tt (plain (λ _. u8)) yes, (stay-none (λ _. u64) yes, tt)))))))))
 
 -- the contracts that the proof cites
-abbrev Meets-look-through : {M : Type 1} (𝓤 : URA M) (H : Heap 𝓤) (A : Atoms 𝓤) (mem : Memory → SProp 𝓤) (run : Routine → Fun 𝓤) → Contract 𝓤
-Meets-look-through 𝓤 H A mem run = tripleOf 𝓤 H A look-through-fn.signature (look-through-fn.spec 𝓤 H A mem run)
-
-abbrev Meets-register-reader-for-snapshot : {M : Type 1} (𝓤 : URA M) (H : Heap 𝓤) (A : Atoms 𝓤) (mem : Memory → SProp 𝓤) (run : Routine → Fun 𝓤) → Contract 𝓤
-Meets-register-reader-for-snapshot 𝓤 H A mem run = tripleOf 𝓤 H A register-reader-for-snapshot-fn.signature (register-reader-for-snapshot-fn.spec 𝓤 H A mem run)
-
-abbrev Meets-put-record : {M : Type 1} (𝓤 : URA M) (H : Heap 𝓤) (A : Atoms 𝓤) (mem : Memory → SProp 𝓤) (run : Routine → Fun 𝓤) → Contract 𝓤
-Meets-put-record 𝓤 H A mem run = tripleOf 𝓤 H A put-record-fn.signature (put-record-fn.spec 𝓤 H A mem run)
+abbrev Meets-wal-register-reader-for-snapshot : {M : Type 1} (𝓤 : URA M) (H : Heap 𝓤) (A : Atoms 𝓤) (mem : Memory → SProp 𝓤) (run : Routine → Fun 𝓤) → Contract 𝓤
+Meets-wal-register-reader-for-snapshot 𝓤 H A mem run = tripleOf 𝓤 H A wal-register-reader-for-snapshot-fn.signature (wal-register-reader-for-snapshot-fn.spec 𝓤 H A mem run)
 
 module _ {M : Type 1} (𝓤 : URA M) (H : Heap 𝓤) (A : Atoms 𝓤) (W : Given 𝓤 H A) (mem : Memory → SProp 𝓤) (run : Routine → Fun 𝓤) (κ0 κ1 κ2 κ3 κ4 κ5 : Lft) (q0 q1 q2 q3 q4 q5 : Share) (b o : ℕ) (γ : GName) (ys : List SharedReadMark) (n : ℕ) (mode : ℕ) (bitmap : RefT (List ℕ)) (reader-frames : RefT (List ℕ)) (reader-owners : RefT (List ℕ)) (local-readers : RefT (List ℕ)) (card : RefT (List ℕ)) (owner : ℕ)
     (fits-n : n < 2 ^ 64) (fits-mode : mode < 2 ^ 32) (room-bitmap : Room u64 (length (bitmap .now))) (room-reader-frames : Room u64 (length (reader-frames .now))) (room-reader-owners : Room u64 (length (reader-owners .now))) (room-local-readers : Room u64 (length (local-readers .now))) (room-registry : Room SharedReadMarkT.the-row (length ys)) (room-card : Room u8 (length (card .now))) (fits-owner : owner < 2 ^ 64) where
@@ -131,146 +105,84 @@ module _ {M : Type 1} (𝓤 : URA M) (H : Heap 𝓤) (A : Atoms 𝓤) (W : Given
       owned ! u64 (Is u64) (uint-makes 𝓤 H A W w64) owner _ (refl, fits-owner) $ fjoin ! $ move ! (6 ∷ 0 ∷ []) $ fjoin ! $ move ! (5 ∷ 0 ∷ []) $ fjoin ! $ move ! (4 ∷ 0 ∷ []) $ fjoin ! $ move ! (3 ∷ 0 ∷ []) $ fjoin ! $ move ! (2 ∷ 0 ∷ []) $ fjoin ! $ move ! (1 ∷ 0 ∷ []) $ fjoin ! $ owned ! u32 (Is u32) (uint-makes 𝓤 H A W w32) mode _ (refl, fits-mode) $ fjoin ! $ owned ! usize (Is usize) (uint-makes 𝓤 H A W w64) n _ (refl, fits-n) $ fjoin ! $
       frame ! $ owned ! ReaderReplyT.the-row (Is ReaderReplyT.the-row) (LL.makes ReaderReplyT.the-type ReaderReplyL.the-plain 𝓤 H A) r _ is $ done !
 
-  -- `look_through`: what it is passed, and what it tells
-  abbrev args-look-through : ℕ → GName → RefT (List SharedReadMark) × (ℕ × (ℕ × Unit {0}))
-  args-look-through ν δ = ((at-list δ ys), (n, (0, tt)))
+  -- `wal_register_reader_for_snapshot`: what it is passed, and what it tells
+  abbrev args-wal-register-reader-for-snapshot : ℕ × (ℕ × (RefT (List ℕ) × (RefT (List ℕ) × (RefT (List ℕ) × (RefT (List ℕ) × (RefT (List SharedReadMark) × (RefT (List ℕ) × (ℕ × (ℕ × Unit {0})))))))))
+  args-wal-register-reader-for-snapshot = (n, (mode, (bitmap, (reader-frames, (reader-owners, (local-readers, ((at-list γ ys), (card, (owner, (0, tt))))))))))
 
-  abbrev vals-look-through : ℕ → GName → List Val × (List Val × (List Val × Unit {0}))
-  vals-look-through ν δ = (seen ∷ [], (vint w64 n ∷ [], (vint w64 0 ∷ [], tt)))
+  abbrev vals-wal-register-reader-for-snapshot : List Val × (List Val × (List Val × (List Val × (List Val × (List Val × (List Val × (List Val × (List Val × (List Val × Unit {0})))))))))
+  vals-wal-register-reader-for-snapshot = (vint w64 n ∷ [], (vint w32 mode ∷ [], (slice-vals bitmap, (slice-vals reader-frames, (slice-vals reader-owners, (slice-vals local-readers, (seen ∷ [], (slice-vals card, (vint w64 owner ∷ [], (vint w64 0 ∷ [], tt))))))))))
 
-  abbrev to-look-through : ℕ → GName → Meets-look-through 𝓤 H A mem run .Ghost
-  to-look-through ν δ = ((((ν ∷ []), tt), (fullShare, tt), tt, args-look-through ν δ, vals-look-through ν δ), tt)
+  abbrev to-wal-register-reader-for-snapshot : Meets-wal-register-reader-for-snapshot 𝓤 H A mem run .Ghost
+  to-wal-register-reader-for-snapshot = (((κ0, (κ1, (κ2, (κ3, (κ4, (κ5, tt)))))), (q0, (q1, (q2, (q3, (q4, (q5, tt)))))), tt, args-wal-register-reader-for-snapshot, vals-wal-register-reader-for-snapshot), tt)
 
-  goes-look-through : (ν : ℕ) (δ : GName) → ent 𝓤 (⋆ 𝓤 H A ((‵ (flft (ν ∷ []) fullShare) ⊛ ‵ ftrue) ∷ ‵ (owns (ShrSlice (named 0) (ν ∷ []) SharedReadMarkT.the-row ∷ usize ∷ u64 ∷ []) (args-look-through ν δ) (vals-look-through ν δ)) ∷ [])) (Meets-look-through 𝓤 H A mem run .pre (to-look-through ν δ))
-  goes-look-through ν δ = qed W ((‵ (flft (ν ∷ []) fullShare) ⊛ ‵ ftrue) ∷ ‵ (owns (ShrSlice (named 0) (ν ∷ []) SharedReadMarkT.the-row ∷ usize ∷ u64 ∷ []) (args-look-through ν δ) (vals-look-through ν δ)) ∷ []) ∵ join ! $ frame ! $ done !
+  goes-wal-register-reader-for-snapshot : ent 𝓤 (⋆ 𝓤 H A ((‵ (flft κ0 q0) ⊛ ‵ (flft κ1 q1) ⊛ ‵ (flft κ2 q2) ⊛ ‵ (flft κ3 q3) ⊛ ‵ (flft κ4 q4) ⊛ ‵ (flft κ5 q5) ⊛ ‵ ftrue) ∷ ‵ (owns (usize ∷ u32 ∷ MutSlice (named 0) κ0 u64 ∷ MutSlice (named 1) κ1 u64 ∷ MutSlice (named 2) κ2 u64 ∷ MutSlice (named 3) κ3 u64 ∷ MutSlice (named 4) κ4 SharedReadMarkT.the-row ∷ ShrSlice (named 5) κ5 u8 ∷ u64 ∷ u64 ∷ []) (args-wal-register-reader-for-snapshot) (vals-wal-register-reader-for-snapshot)) ∷ [])) (Meets-wal-register-reader-for-snapshot 𝓤 H A mem run .pre to-wal-register-reader-for-snapshot)
+  goes-wal-register-reader-for-snapshot = qed W ((‵ (flft κ0 q0) ⊛ ‵ (flft κ1 q1) ⊛ ‵ (flft κ2 q2) ⊛ ‵ (flft κ3 q3) ⊛ ‵ (flft κ4 q4) ⊛ ‵ (flft κ5 q5) ⊛ ‵ ftrue) ∷ ‵ (owns (usize ∷ u32 ∷ MutSlice (named 0) κ0 u64 ∷ MutSlice (named 1) κ1 u64 ∷ MutSlice (named 2) κ2 u64 ∷ MutSlice (named 3) κ3 u64 ∷ MutSlice (named 4) κ4 SharedReadMarkT.the-row ∷ ShrSlice (named 5) κ5 u8 ∷ u64 ∷ u64 ∷ []) (args-wal-register-reader-for-snapshot) (vals-wal-register-reader-for-snapshot)) ∷ []) ∵ join ! $ frame ! $ done !
 
-  abbrev Says-look-through : ℕ → GName → Seen → Type 0
-  Says-look-through ν δ t1 = t1 ≡ seen-of (min n (length ys)) ys 0
+  abbrev Says-wal-register-reader-for-snapshot : ReaderReply → List ℕ → List ℕ → List ℕ → List ℕ → List SharedReadMark → Type 0
+  Says-wal-register-reader-for-snapshot t1 w-bitmap w-reader-frames w-reader-owners w-local-readers w-registry = RegistryReplied reader-reply (with-mode (mode-given mode) (λ given. register-reader-for-snapshot n given owner 0 (card .now))) (bitmap .now) (reader-frames .now) (reader-owners .now) (local-readers .now) ys t1 w-bitmap w-reader-frames w-reader-owners w-local-readers w-registry
 
-  -- `register_reader_for_snapshot`: what it is passed, and what it tells
-  abbrev args-register-reader-for-snapshot : Seen → Val → ℕ × (ℕ × (RefT (List ℕ) × (RefT (List ℕ) × (RefT (List ℕ) × (RefT (List ℕ) × (ℕ × (Seen × (RefT (List ℕ) × (ℕ × (ℕ × Unit {0}))))))))))
-  args-register-reader-for-snapshot t1 v1 = (n, (mode, (bitmap, (reader-frames, (reader-owners, (local-readers, ((length ys), (t1, (card, (owner, (0, tt)))))))))))
-
-  abbrev vals-register-reader-for-snapshot : Seen → Val → List Val × (List Val × (List Val × (List Val × (List Val × (List Val × (List Val × (List Val × (List Val × (List Val × (List Val × Unit {0}))))))))))
-  vals-register-reader-for-snapshot t1 v1 = (vint w64 n ∷ [], (vint w32 mode ∷ [], (slice-vals bitmap, (slice-vals reader-frames, (slice-vals reader-owners, (slice-vals local-readers, (vint w64 (length ys) ∷ [], (v1 ∷ [], (slice-vals card, (vint w64 owner ∷ [], (vint w64 0 ∷ [], tt)))))))))))
-
-  abbrev to-register-reader-for-snapshot : Seen → Val → Meets-register-reader-for-snapshot 𝓤 H A mem run .Ghost
-  to-register-reader-for-snapshot t1 v1 = (((κ0, (κ1, (κ2, (κ3, (κ5, tt))))), (q0, (q1, (q2, (q3, (q5, tt))))), tt, args-register-reader-for-snapshot t1 v1, vals-register-reader-for-snapshot t1 v1), tt)
-
-  goes-register-reader-for-snapshot : (t1 : Seen) (v1 : Val) → ent 𝓤 (⋆ 𝓤 H A ((‵ (flft κ0 q0) ⊛ ‵ (flft κ1 q1) ⊛ ‵ (flft κ2 q2) ⊛ ‵ (flft κ3 q3) ⊛ ‵ (flft κ5 q5) ⊛ ‵ ftrue) ∷ ‵ (owns (usize ∷ u32 ∷ MutSlice (named 0) κ0 u64 ∷ MutSlice (named 1) κ1 u64 ∷ MutSlice (named 2) κ2 u64 ∷ MutSlice (named 3) κ3 u64 ∷ usize ∷ SeenT.the-row ∷ ShrSlice (named 4) κ5 u8 ∷ u64 ∷ u64 ∷ []) (args-register-reader-for-snapshot t1 v1) (vals-register-reader-for-snapshot t1 v1)) ∷ [])) (Meets-register-reader-for-snapshot 𝓤 H A mem run .pre (to-register-reader-for-snapshot t1 v1))
-  goes-register-reader-for-snapshot t1 v1 = qed W ((‵ (flft κ0 q0) ⊛ ‵ (flft κ1 q1) ⊛ ‵ (flft κ2 q2) ⊛ ‵ (flft κ3 q3) ⊛ ‵ (flft κ5 q5) ⊛ ‵ ftrue) ∷ ‵ (owns (usize ∷ u32 ∷ MutSlice (named 0) κ0 u64 ∷ MutSlice (named 1) κ1 u64 ∷ MutSlice (named 2) κ2 u64 ∷ MutSlice (named 3) κ3 u64 ∷ usize ∷ SeenT.the-row ∷ ShrSlice (named 4) κ5 u8 ∷ u64 ∷ u64 ∷ []) (args-register-reader-for-snapshot t1 v1) (vals-register-reader-for-snapshot t1 v1)) ∷ []) ∵ join ! $ frame ! $ done !
-
-  abbrev Says-register-reader-for-snapshot : Seen → Val → ShareStep → List ℕ → List ℕ → List ℕ → List ℕ → Type 0
-  Says-register-reader-for-snapshot t1 v1 t2 w-bitmap w-reader-frames w-reader-owners w-local-readers = PlanStep reader-reply n 0 t1 (length ys) (with-mode (mode-given mode) (λ given. register-reader-for-snapshot n given owner 0 (card .now))) (bitmap .now) (reader-frames .now) (reader-owners .now) (local-readers .now) (t2 .reply) w-bitmap w-reader-frames w-reader-owners w-local-readers (t2 .place) (t2 .item)
-
-  -- `put_record`: what it is passed, and what it tells
-  abbrev args-put-record : ShareStep → RefT (List SharedReadMark) × (ℕ × (SharedReadMark × Unit {0}))
-  args-put-record t2 = ((at-list γ ys), ((t2 .place), ((t2 .item), tt)))
-
-  abbrev vals-put-record : ShareStep → List Val × (List Val × (List Val × Unit {0}))
-  vals-put-record t2 = (seen ∷ [], (vint w64 (t2 .place) ∷ [], (LL.val SharedReadMarkT.the-type SharedReadMarkL.the-laws (t2 .item) ∷ [], tt)))
-
-  abbrev to-put-record : ShareStep → Meets-put-record 𝓤 H A mem run .Ghost
-  to-put-record t2 = (((κ4, tt), (q4, tt), tt, args-put-record t2, vals-put-record t2), tt)
-
-  goes-put-record : (t2 : ShareStep) → ent 𝓤 (⋆ 𝓤 H A ((‵ (flft κ4 q4) ⊛ ‵ ftrue) ∷ ‵ (owns (MutSlice (named 0) κ4 SharedReadMarkT.the-row ∷ usize ∷ SharedReadMarkT.the-row ∷ []) (args-put-record t2) (vals-put-record t2)) ∷ [])) (Meets-put-record 𝓤 H A mem run .pre (to-put-record t2))
-  goes-put-record t2 = qed W ((‵ (flft κ4 q4) ⊛ ‵ ftrue) ∷ ‵ (owns (MutSlice (named 0) κ4 SharedReadMarkT.the-row ∷ usize ∷ SharedReadMarkT.the-row ∷ []) (args-put-record t2) (vals-put-record t2)) ∷ []) ∵ join ! $ frame ! $ done !
-
-  abbrev Says-put-record : ShareStep → Unit {0} → List SharedReadMark → Type 0
-  Says-put-record t2 t3 w-registry = w-registry ≡ set ys (t2 .place) (t2 .item)
-
-  module _ (C : Calls 𝓤 H) (Λ : Loops 𝓤 H) (fm : FmC 𝓤 H (W .laws) C) (known-look-through : Triple 𝓤 (C #reader-registry·look-through) (Meets-look-through 𝓤 H A mem run)) (known-register-reader-for-snapshot : Triple 𝓤 (C #c-readers·registry-steps·register-reader-for-snapshot) (Meets-register-reader-for-snapshot 𝓤 H A mem run)) (known-put-record : Triple 𝓤 (C #reader-registry·put-record) (Meets-put-record 𝓤 H A mem run)) where
+  module _ (C : Calls 𝓤 H) (Λ : Loops 𝓤 H) (fm : FmC 𝓤 H (W .laws) C) (known-wal-register-reader-for-snapshot : Triple 𝓤 (C #c-readers·reader-calls·wal-register-reader-for-snapshot) (Meets-wal-register-reader-for-snapshot 𝓤 H A mem run)) where
     walk : ent 𝓤 (onEntry 𝓤 H A entry.signature (κ0, (κ1, (κ2, (κ3, (κ4, (κ5, tt)))))) (q0, (q1, (q2, (q3, (q4, (q5, tt)))))) passed at) (WpFn 𝓤 H C Λ code.function flat Post)
     walk =
         qed W ((‵ (flft κ0 q0) ⊛ ‵ (flft κ1 q1) ⊛ ‵ (flft κ2 q2) ⊛ ‵ (flft κ3 q3) ⊛ ‵ (flft κ4 q4) ⊛ ‵ (flft κ5 q5) ⊛ ‵ ftrue) ∷ ‵ (owns (usize ∷ u32 ∷ MutSlice (named 0) κ0 u64 ∷ MutSlice (named 1) κ1 u64 ∷ MutSlice (named 2) κ2 u64 ∷ MutSlice (named 3) κ3 u64 ∷ MutSlice (named 4) κ4 SharedReadMarkT.the-row ∷ ShrSlice (named 5) κ5 u8 ∷ u64 ∷ []) passed at) ∷ []) ∵ enter ! C Λ code.function flat _ $
         alloc1 ! (λ l₀. alloc1 ! (λ l₁. alloc1 ! (λ l₂. alloc1 ! (λ l₃. alloc1 ! (λ l₄. alloc1 ! (λ l₅. alloc1 ! (λ l₆. alloc1 ! (λ l₇. alloc1 ! (λ l₈. alloc1 ! (λ l₉. alloc1 ! (λ l₁₀. alloc1 ! (λ l₁₁. alloc1 ! (λ l₁₂.
-        alloc1 ! (λ l₁₃. alloc1 ! (λ l₁₄. alloc1 ! (λ l₁₅. alloc1 ! (λ l₁₆. alloc1 ! (λ l₁₇. alloc1 ! (λ l₁₈. alloc1 ! (λ l₁₉. alloc1 ! (λ l₂₀. alloc1 ! (λ l₂₁. alloc1 ! (λ l₂₂. alloc1 ! (λ l₂₃. alloc1 ! (λ l₂₄. alloc1 ! (λ l₂₅.
-        alloc0 ! $ params1 ! $ pass1 ! (init ! 48 refl (tt, record { fits = fits-n })) $ pass1 ! (init ! 46 refl (tt, record { fits = fits-mode })) $ pass1 ! (init ! 44 refl (tt, (tt, (record { fits = room-bitmap .0 }, tt)))) $
-        pass1 ! (init ! 42 refl (tt, (tt, (record { fits = room-reader-frames .0 }, tt)))) $ pass1 ! (init ! 40 refl (tt, (tt, (record { fits = room-reader-owners .0 }, tt)))) $
-        pass1 ! (init ! 38 refl (tt, (tt, (record { fits = room-local-readers .0 }, tt)))) $ pass1 ! (init ! 36 refl (tt, (tt, (record { fits = room-registry .0 }, tt)))) $
-        pass1 ! (init ! 34 refl (tt, (tt, (record { fits = room-card .0 }, tt)))) $ pass1 ! (init ! 32 refl (tt, record { fits = fits-owner })) $ pass0 ! $ move ! (53 ∷ []) $ fsplit ! $ drop ! $ fsplit ! $ drop ! $ fsplit ! $
-        move ! (1 ∷ []) $ fsplit ! $ move ! (1 ∷ []) $ fsplit ! $ move ! (1 ∷ []) $ fsplit ! $ move ! (1 ∷ []) $ fsplit ! $ move ! (1 ∷ []) $ fsplit ! $ move ! (1 ∷ []) $ fsplit ! $ drop ! $ drop ! $ move ! (58 ∷ []) $ split ! $
+        alloc1 ! (λ l₁₃. alloc1 ! (λ l₁₄. alloc1 ! (λ l₁₅. alloc1 ! (λ l₁₆. alloc1 ! (λ l₁₇. alloc1 ! (λ l₁₈. alloc1 ! (λ l₁₉. alloc0 ! $ params1 ! $ pass1 ! (init ! 36 refl (tt, record { fits = fits-n })) $
+        pass1 ! (init ! 34 refl (tt, record { fits = fits-mode })) $ pass1 ! (init ! 32 refl (tt, (tt, (record { fits = room-bitmap .0 }, tt)))) $
+        pass1 ! (init ! 30 refl (tt, (tt, (record { fits = room-reader-frames .0 }, tt)))) $ pass1 ! (init ! 28 refl (tt, (tt, (record { fits = room-reader-owners .0 }, tt)))) $
+        pass1 ! (init ! 26 refl (tt, (tt, (record { fits = room-local-readers .0 }, tt)))) $ pass1 ! (init ! 24 refl (tt, (tt, (record { fits = room-registry .0 }, tt)))) $
+        pass1 ! (init ! 22 refl (tt, (tt, (record { fits = room-card .0 }, tt)))) $ pass1 ! (init ! 20 refl (tt, record { fits = fits-owner })) $ pass0 ! $ move ! (41 ∷ []) $ fsplit ! $ drop ! $ fsplit ! $ drop ! $ fsplit ! $
+        move ! (1 ∷ []) $ fsplit ! $ move ! (1 ∷ []) $ fsplit ! $ move ! (1 ∷ []) $ fsplit ! $ move ! (1 ∷ []) $ fsplit ! $ move ! (1 ∷ []) $ fsplit ! $ move ! (1 ∷ []) $ fsplit ! $ drop ! $ drop ! $ move ! (46 ∷ []) $ split ! $
         move ! (1 ∷ []) $ split ! $ move ! (1 ∷ []) $ split ! $ move ! (1 ∷ []) $ split ! $ move ! (1 ∷ []) $ split ! $ move ! (1 ∷ []) $ split ! $ move ! (1 ∷ []) $ drop ! $
-        assigns ! (of-opd ! (load ! (from ! (fld ! refl (stop !))) (look-in ! 48 (sub ! 1 refl (whole !))))) (from ! (stop !)) (init ! 42 refl (tt, record { fits = room-registry .0 })) $
-        -- the slice of structs is opened, to be lent as a `&`
-        move ! (7 ∷ []) $ fsplit ! $ move ! (1 ∷ []) $ fsplit ! $ move ! (0 ∷ 1 ∷ 4 ∷ []) $ opens-slice ! tt SharedReadMarkT.the-row ys b o $
-        assigns ! (addr ! (from ! (fld ! refl (hop ! (look-in ! 51 (sub ! 0 refl (whole !))) (stop !))))) (from ! (stop !)) (init ! 39 refl (tt, tt)) $
-        assigns ! (agg ! (and-then ! (load ! (from ! (stop !)) (look ! 39 refl)) (and-then ! (load ! (from ! (fld ! refl (stop !))) (look-in ! 51 (sub ! 1 refl (whole !)))) (no-more !)))) (from ! (stop !)) (init ! 37 refl (tt, (tt, (record { fits = room-registry .0 }, tt)))) $
-        -- for a lifetime ν of the call
-        feqI ! ℕ (length ys) (length ys) refl $ fjoin ! $ lft-new ! tt (λ ν. move ! (1 ∷ []) $
-        use1 W (later (some (λ (δ : GName). ‵ (ShrSlice (named 0) (ν ∷ []) SharedReadMarkT.the-row .own (at-list δ ys) (seen ∷ [])) ⊛ ‵ (flent (ν ∷ []) (arr-parts (shares SharedReadMarkT.the-row) (length ys) .part fullShare ys b o))))) (lends-shr-slice 𝓤 H A W SharedReadMarkT.the-row (named 0) (ν ∷ []) fullShare ys b o room-registry) $ await ! tt $ pick ! (λ δ.
-        split ! $ nothing ! $ owned ! u64 (Is u64) (uint-makes 𝓤 H A W w64) 0 _ (refl, lit< tt) $ fjoin ! $ owned ! usize (Is usize) (uint-makes 𝓤 H A W w64) n _ (refl, fits-n) $ fjoin ! $ move ! (1 ∷ 0 ∷ []) $ fjoin ! $
-        nothing ! $ move ! (3 ∷ 0 ∷ []) $ join ! $ use2 W (raw (Meets-look-through 𝓤 H A mem run .pre (to-look-through ν δ))) (goes-look-through ν δ) $
-        calls-at ! fm (Meets-look-through 𝓤 H A mem run) known-look-through (to-look-through ν δ) (and-then ! (load ! (from ! (stop !)) (look ! 38 refl)) (and-then ! (load ! (from ! (stop !)) (look ! 64 refl)) (and-then ! (lit ! tt) (no-more !)))) (λ v1.
-        use1 W (later (some (λ (t1 : Seen). ((‵ (flft (ν ∷ []) fullShare) ⊛ ‵ ftrue) ⊛ ‵ (SeenT.the-row .own t1 (v1 ∷ []))) ⊛ raw (ensured 𝓤 H A look-through-fn.ended (look-through-fn.clauses 𝓤 H A mem run) ((ν ∷ []), tt) (args-look-through ν δ) tt t1)))) (id⊢ 𝓤 _) $ await ! tt $ pick ! (λ t1.
-        split ! $ move ! (1 ∷ []) $
-        use1 W (some (λ (ws1 : Unit {0} × (Unit {0} × (Unit {0} × Unit {0}))). ‵ (lasts look-through-fn.ended ((ν ∷ []), tt) (args-look-through ν δ) ws1) ⊛ raw (fact 𝓤 (Says-look-through ν δ t1)))) (id⊢ 𝓤 _) $ pick ! (λ ws1.
-        split ! $ move ! (1 ∷ []) $ heard ! (Says-look-through ν δ t1) (λ e1. drop ! $ split ! $ move ! (1 ∷ []) $ peeks ! SeenT.the-row (Is SeenT.the-row) (shows 𝓤 H A SeenT.the-row) t1 (v1 ∷ []) (λ is1.
-        land ! (from ! (stop !)) (init ! 45 refl (LL.lawful SeenT.the-type SeenL.the-laws 𝓤 H A W .typed t1 _ is1 .0)) $ move ! (1 ∷ []) $ split ! $ move ! (1 ∷ []) $ drop ! $
-        -- the slice of structs comes back
-        lft-end ! tt $ move ! (0 ∷ 2 ∷ []) $ lent-back ! tt $ fsplit ! $ drop ! $ move ! (0 ∷ 2 ∷ 3 ∷ 4 ∷ []) $ closes-slice ! tt SharedReadMarkT.the-row ys ys refl b o $ fjoin ! $ move ! (3 ∷ 0 ∷ []) $ fjoin ! $
-        assigns ! (addr ! (from ! (fld ! refl (hop ! (look-in ! 57 (sub ! 0 refl (whole !))) (stop !))))) (from ! (stop !)) (init ! 33 refl (tt, tt)) $
-        assigns ! (agg ! (and-then ! (load ! (from ! (stop !)) (look ! 33 refl)) (and-then ! (load ! (from ! (fld ! refl (stop !))) (look-in ! 57 (sub ! 1 refl (whole !)))) (no-more !)))) (from ! (stop !)) (init ! 31 refl (tt, (tt, (record { fits = room-bitmap .0 }, tt)))) $
-        assigns ! (addr ! (from ! (fld ! refl (hop ! (look-in ! 55 (sub ! 0 refl (whole !))) (stop !))))) (from ! (stop !)) (init ! 29 refl (tt, tt)) $
-        assigns ! (agg ! (and-then ! (load ! (from ! (stop !)) (look ! 29 refl)) (and-then ! (load ! (from ! (fld ! refl (stop !))) (look-in ! 55 (sub ! 1 refl (whole !)))) (no-more !)))) (from ! (stop !)) (init ! 27 refl (tt, (tt, (record { fits = room-reader-frames .0 }, tt)))) $
-        assigns ! (addr ! (from ! (fld ! refl (hop ! (look-in ! 53 (sub ! 0 refl (whole !))) (stop !))))) (from ! (stop !)) (init ! 25 refl (tt, tt)) $
-        assigns ! (agg ! (and-then ! (load ! (from ! (stop !)) (look ! 25 refl)) (and-then ! (load ! (from ! (fld ! refl (stop !))) (look-in ! 53 (sub ! 1 refl (whole !)))) (no-more !)))) (from ! (stop !)) (init ! 23 refl (tt, (tt, (record { fits = room-reader-owners .0 }, tt)))) $
-        assigns ! (addr ! (from ! (fld ! refl (hop ! (look-in ! 51 (sub ! 0 refl (whole !))) (stop !))))) (from ! (stop !)) (init ! 21 refl (tt, tt)) $
-        assigns ! (agg ! (and-then ! (load ! (from ! (stop !)) (look ! 21 refl)) (and-then ! (load ! (from ! (fld ! refl (stop !))) (look-in ! 51 (sub ! 1 refl (whole !)))) (no-more !)))) (from ! (stop !)) (init ! 19 refl (tt, (tt, (record { fits = room-local-readers .0 }, tt)))) $
-        -- `register_reader_for_snapshot`
-        move ! (8 ∷ []) $ use1 W (‵ (ShrSlice (named 5) κ5 u8 .own card (slice-vals card)) ⊛ ‵ (ShrSlice (named 5) κ5 u8 .own card (slice-vals card))) (shr-slice-copy 𝓤 H A W (named 5) κ5 u8 .twice card (slice-vals card)) $
+        assigns ! (addr ! (from ! (fld ! refl (hop ! (look-in ! 44 (sub ! 0 refl (whole !))) (stop !))))) (from ! (stop !)) (init ! 30 refl (tt, tt)) $
+        assigns ! (agg ! (and-then ! (load ! (from ! (stop !)) (look ! 30 refl)) (and-then ! (load ! (from ! (fld ! refl (stop !))) (look-in ! 44 (sub ! 1 refl (whole !)))) (no-more !)))) (from ! (stop !)) (init ! 28 refl (tt, (tt, (record { fits = room-bitmap .0 }, tt)))) $
+        assigns ! (addr ! (from ! (fld ! refl (hop ! (look-in ! 42 (sub ! 0 refl (whole !))) (stop !))))) (from ! (stop !)) (init ! 26 refl (tt, tt)) $
+        assigns ! (agg ! (and-then ! (load ! (from ! (stop !)) (look ! 26 refl)) (and-then ! (load ! (from ! (fld ! refl (stop !))) (look-in ! 42 (sub ! 1 refl (whole !)))) (no-more !)))) (from ! (stop !)) (init ! 24 refl (tt, (tt, (record { fits = room-reader-frames .0 }, tt)))) $
+        assigns ! (addr ! (from ! (fld ! refl (hop ! (look-in ! 40 (sub ! 0 refl (whole !))) (stop !))))) (from ! (stop !)) (init ! 22 refl (tt, tt)) $
+        assigns ! (agg ! (and-then ! (load ! (from ! (stop !)) (look ! 22 refl)) (and-then ! (load ! (from ! (fld ! refl (stop !))) (look-in ! 40 (sub ! 1 refl (whole !)))) (no-more !)))) (from ! (stop !)) (init ! 20 refl (tt, (tt, (record { fits = room-reader-owners .0 }, tt)))) $
+        assigns ! (addr ! (from ! (fld ! refl (hop ! (look-in ! 38 (sub ! 0 refl (whole !))) (stop !))))) (from ! (stop !)) (init ! 18 refl (tt, tt)) $
+        assigns ! (agg ! (and-then ! (load ! (from ! (stop !)) (look ! 18 refl)) (and-then ! (load ! (from ! (fld ! refl (stop !))) (look-in ! 38 (sub ! 1 refl (whole !)))) (no-more !)))) (from ! (stop !)) (init ! 16 refl (tt, (tt, (record { fits = room-local-readers .0 }, tt)))) $
+        assigns ! (addr ! (from ! (fld ! refl (hop ! (look-in ! 36 (sub ! 0 refl (whole !))) (stop !))))) (from ! (stop !)) (init ! 14 refl (tt, tt)) $
+        assigns ! (agg ! (and-then ! (load ! (from ! (stop !)) (look ! 14 refl)) (and-then ! (load ! (from ! (fld ! refl (stop !))) (look-in ! 36 (sub ! 1 refl (whole !)))) (no-more !)))) (from ! (stop !)) (init ! 12 refl (tt, (tt, (record { fits = room-registry .0 }, tt)))) $
+        -- `wal_register_reader_for_snapshot`
+        move ! (6 ∷ []) $ use1 W (‵ (ShrSlice (named 5) κ5 u8 .own card (slice-vals card)) ⊛ ‵ (ShrSlice (named 5) κ5 u8 .own card (slice-vals card))) (shr-slice-copy 𝓤 H A W (named 5) κ5 u8 .twice card (slice-vals card)) $
         split ! $ nothing ! $ owned ! u64 (Is u64) (uint-makes 𝓤 H A W w64) 0 _ (refl, lit< tt) $ fjoin ! $ owned ! u64 (Is u64) (uint-makes 𝓤 H A W w64) owner _ (refl, fits-owner) $ fjoin ! $ move ! (1 ∷ 0 ∷ []) $ fjoin ! $
-        move ! (4 ∷ 0 ∷ []) $ fjoin ! $ owned ! usize (Is usize) (uint-makes 𝓤 H A W w64) (length ys) _ (refl, room-registry .0) $ fjoin ! $ move ! (9 ∷ 0 ∷ []) $ fjoin ! $ move ! (9 ∷ 0 ∷ []) $ fjoin ! $ move ! (9 ∷ 0 ∷ []) $
-        fjoin ! $ move ! (9 ∷ 0 ∷ []) $ fjoin ! $ owned ! u32 (Is u32) (uint-makes 𝓤 H A W w32) mode _ (refl, fits-mode) $ fjoin ! $ owned ! usize (Is usize) (uint-makes 𝓤 H A W w64) n _ (refl, fits-n) $ fjoin ! $ nothing ! $
-        move ! (5 ∷ 0 ∷ []) $ join ! $ move ! (5 ∷ 0 ∷ []) $ join ! $ move ! (5 ∷ 0 ∷ []) $ join ! $ move ! (5 ∷ 0 ∷ []) $ join ! $ move ! (5 ∷ 0 ∷ []) $ join ! $
-        use2 W (raw (Meets-register-reader-for-snapshot 𝓤 H A mem run .pre (to-register-reader-for-snapshot t1 v1))) (goes-register-reader-for-snapshot t1 v1) $
-        calls-at ! fm (Meets-register-reader-for-snapshot 𝓤 H A mem run) known-register-reader-for-snapshot (to-register-reader-for-snapshot t1 v1) (and-then ! (load ! (from ! (stop !)) (look ! 52 refl)) (and-then ! (load ! (from ! (stop !)) (look ! 50 refl)) (and-then ! (load ! (from ! (stop !)) (look ! 22 refl)) (and-then ! (load ! (from ! (stop !)) (look ! 18 refl)) (and-then ! (load ! (from ! (stop !)) (look ! 14 refl)) (and-then ! (load ! (from ! (stop !)) (look ! 10 refl)) (and-then ! (load ! (from ! (stop !)) (look ! 34 refl)) (and-then ! (load ! (from ! (stop !)) (look ! 32 refl)) (and-then ! (load ! (from ! (stop !)) (look ! 38 refl)) (and-then ! (load ! (from ! (stop !)) (look ! 36 refl)) (and-then ! (lit ! tt) (no-more !)))))))))))) (λ v2.
-        use1 W (later (some (λ (t2 : ShareStep). ((‵ (flft κ0 q0) ⊛ ‵ (flft κ1 q1) ⊛ ‵ (flft κ2 q2) ⊛ ‵ (flft κ3 q3) ⊛ ‵ (flft κ5 q5) ⊛ ‵ ftrue) ⊛ ‵ (ShareStepT.the-row .own t2 (v2 ∷ []))) ⊛ raw (ensured 𝓤 H A register-reader-for-snapshot-fn.ended (register-reader-for-snapshot-fn.clauses 𝓤 H A mem run) (κ0, (κ1, (κ2, (κ3, (κ5, tt))))) (args-register-reader-for-snapshot t1 v1) tt t2)))) (id⊢ 𝓤 _) $ await ! tt $ pick ! (λ t2.
+        move ! (8 ∷ 0 ∷ []) $ fjoin ! $ move ! (8 ∷ 0 ∷ []) $ fjoin ! $ move ! (8 ∷ 0 ∷ []) $ fjoin ! $ move ! (8 ∷ 0 ∷ []) $ fjoin ! $ move ! (8 ∷ 0 ∷ []) $ fjoin ! $
+        owned ! u32 (Is u32) (uint-makes 𝓤 H A W w32) mode _ (refl, fits-mode) $ fjoin ! $ owned ! usize (Is usize) (uint-makes 𝓤 H A W w64) n _ (refl, fits-n) $ fjoin ! $ nothing ! $ move ! (3 ∷ 0 ∷ []) $ join ! $
+        move ! (3 ∷ 0 ∷ []) $ join ! $ move ! (3 ∷ 0 ∷ []) $ join ! $ move ! (3 ∷ 0 ∷ []) $ join ! $ move ! (3 ∷ 0 ∷ []) $ join ! $ move ! (3 ∷ 0 ∷ []) $ join ! $
+        use2 W (raw (Meets-wal-register-reader-for-snapshot 𝓤 H A mem run .pre to-wal-register-reader-for-snapshot)) goes-wal-register-reader-for-snapshot $
+        calls-at ! fm (Meets-wal-register-reader-for-snapshot 𝓤 H A mem run) known-wal-register-reader-for-snapshot to-wal-register-reader-for-snapshot (and-then ! (load ! (from ! (stop !)) (look ! 38 refl)) (and-then ! (load ! (from ! (stop !)) (look ! 36 refl)) (and-then ! (load ! (from ! (stop !)) (look ! 18 refl)) (and-then ! (load ! (from ! (stop !)) (look ! 14 refl)) (and-then ! (load ! (from ! (stop !)) (look ! 10 refl)) (and-then ! (load ! (from ! (stop !)) (look ! 6 refl)) (and-then ! (load ! (from ! (stop !)) (look ! 2 refl)) (and-then ! (load ! (from ! (stop !)) (look ! 24 refl)) (and-then ! (load ! (from ! (stop !)) (look ! 22 refl)) (and-then ! (lit ! tt) (no-more !))))))))))) (λ v1.
+        use1 W (later (some (λ (t1 : ReaderReply). ((‵ (flft κ0 q0) ⊛ ‵ (flft κ1 q1) ⊛ ‵ (flft κ2 q2) ⊛ ‵ (flft κ3 q3) ⊛ ‵ (flft κ4 q4) ⊛ ‵ (flft κ5 q5) ⊛ ‵ ftrue) ⊛ ‵ (ReaderReplyT.the-row .own t1 (v1 ∷ []))) ⊛ raw (ensured 𝓤 H A wal-register-reader-for-snapshot-fn.ended (wal-register-reader-for-snapshot-fn.clauses 𝓤 H A mem run) (κ0, (κ1, (κ2, (κ3, (κ4, (κ5, tt)))))) (args-wal-register-reader-for-snapshot) tt t1)))) (id⊢ 𝓤 _) $ await ! tt $ pick ! (λ t1.
         split ! $ move ! (1 ∷ []) $
-        use1 W (some (λ (ws2 : Unit {0} × (Unit {0} × (List ℕ × (List ℕ × (List ℕ × (List ℕ × (Unit {0} × (Unit {0} × (Unit {0} × (Unit {0} × (Unit {0} × Unit {0}))))))))))). ‵ (lasts register-reader-for-snapshot-fn.ended (κ0, (κ1, (κ2, (κ3, (κ5, tt))))) (args-register-reader-for-snapshot t1 v1) ws2) ⊛ raw (fact 𝓤 (Says-register-reader-for-snapshot t1 v1 t2 (ws2 .1 .1 .0) (ws2 .1 .1 .1 .0) (ws2 .1 .1 .1 .1 .0) (ws2 .1 .1 .1 .1 .1 .0))))) (id⊢ 𝓤 _) $ pick ! (λ ws2.
-        split ! $ move ! (1 ∷ []) $ heard ! (Says-register-reader-for-snapshot t1 v1 t2 (ws2 .1 .1 .0) (ws2 .1 .1 .1 .0) (ws2 .1 .1 .1 .1 .0) (ws2 .1 .1 .1 .1 .1 .0)) (λ e2. fsplit ! $ drop ! $ fsplit ! $ drop ! $ fsplit ! $
-        fsplit ! $ move ! (1 ∷ []) $ feqL ! (λ long-bitmap. move ! (1 ∷ []) $ fsplit ! $ fsplit ! $ move ! (1 ∷ []) $ feqL ! (λ long-reader-frames. move ! (1 ∷ []) $ fsplit ! $ fsplit ! $ move ! (1 ∷ []) $
-        feqL ! (λ long-reader-owners. move ! (1 ∷ []) $ fsplit ! $ fsplit ! $ move ! (1 ∷ []) $ feqL ! (λ long-local-readers. move ! (1 ∷ []) $ drop ! $ move ! (4 ∷ []) $ split ! $ move ! (1 ∷ []) $
-        peeks ! ShareStepT.the-row (Is ShareStepT.the-row) (shows 𝓤 H A ShareStepT.the-row) t2 (v2 ∷ []) (λ is2. drop ! $
-        land ! (from ! (stop !)) (init ! 34 refl (LL.lawful ShareStepT.the-type ShareStepL.the-laws 𝓤 H A W .typed t2 _ is2 .0)) $
-        rewrite ! 34 (λ (u : Val). ‵ (fat fullShare ShareStepL.mir l₁₂ 0 u)) (ap only (LL.tells ShareStepT.the-type ShareStepL.the-laws t2 (v2 ∷ []) is2)) refl $ split ! $ move ! (1 ∷ []) $ split ! $ move ! (1 ∷ []) $ split ! $
-        move ! (1 ∷ []) $ split ! $ move ! (1 ∷ []) $ split ! $ move ! (1 ∷ []) $ drop ! $
-        assigns ! (addr ! (from ! (fld ! refl (hop ! (look-in ! 48 (sub ! 0 refl (whole !))) (stop !))))) (from ! (stop !)) (init ! 14 refl (tt, tt)) $
-        assigns ! (agg ! (and-then ! (load ! (from ! (stop !)) (look ! 14 refl)) (and-then ! (load ! (from ! (fld ! refl (stop !))) (look-in ! 48 (sub ! 1 refl (whole !)))) (no-more !)))) (from ! (stop !)) (init ! 12 refl (tt, (tt, (record { fits = room-registry .0 }, tt)))) $
-        -- `put_record`
-        nothing ! $ owned ! SharedReadMarkT.the-row (Is SharedReadMarkT.the-row) (LL.makes SharedReadMarkT.the-type SharedReadMarkL.the-plain 𝓤 H A) (t2 .item) _ (LL.owed ShareStepT.the-type ShareStepL.the-laws t2 _ is2 .1 .0) $
-        fjoin ! $ owned ! usize (Is usize) (uint-makes 𝓤 H A W w64) (t2 .place) _ (refl, LL.owed ShareStepT.the-type ShareStepL.the-laws t2 _ is2 .0 .1) $ fjoin ! $ move ! (11 ∷ 0 ∷ []) $ fjoin ! $ nothing ! $
-        move ! (12 ∷ 0 ∷ []) $ join ! $ use2 W (raw (Meets-put-record 𝓤 H A mem run .pre (to-put-record t2))) (goes-put-record t2) $
-        calls-at ! fm (Meets-put-record 𝓤 H A mem run) known-put-record (to-put-record t2) (and-then ! (load ! (from ! (stop !)) (look ! 11 refl)) (and-then ! (load ! (from ! (fld ! refl (stop !))) (look-in ! 37 (sub ! 0 refl (whole !)))) (and-then ! (load ! (from ! (fld ! refl (stop !))) (look-in ! 37 (sub ! 1 refl (whole !)))) (no-more !)))) (λ v3.
-        use1 W (later (some (λ (t3 : Unit {0}). ((‵ (flft κ4 q4) ⊛ ‵ ftrue) ⊛ ‵ (unit .own t3 (v3 ∷ []))) ⊛ raw (ensured 𝓤 H A put-record-fn.ended (put-record-fn.clauses 𝓤 H A mem run) (κ4, tt) (args-put-record t2) tt t3)))) (id⊢ 𝓤 _) $ await ! tt $ pick ! (λ t3.
-        split ! $ move ! (1 ∷ []) $
-        use1 W (some (λ (ws3 : List SharedReadMark × (Unit {0} × (Unit {0} × Unit {0}))). ‵ (lasts put-record-fn.ended (κ4, tt) (args-put-record t2) ws3) ⊛ raw (fact 𝓤 (Says-put-record t2 t3 (ws3 .0))))) (id⊢ 𝓤 _) $ pick ! (λ ws3.
-        split ! $ move ! (1 ∷ []) $ heard ! (Says-put-record t2 t3 (ws3 .0)) (λ e3. fsplit ! $ fsplit ! $ move ! (1 ∷ []) $ feqL ! (λ long-registry. move ! (1 ∷ []) $ drop ! $ move ! (1 ∷ []) $ split ! $ move ! (1 ∷ []) $
-        peeks ! unit (Is unit) (shows 𝓤 H A unit) t3 (v3 ∷ []) (λ is3. drop ! $ land ! (from ! (stop !)) (init ! 16 refl (nothing-lawful 𝓤 H A W .typed t3 _ is3 .0)) $ split ! $ move ! (1 ∷ []) $ drop ! $
-        assigns ! (of-opd ! (load ! (from ! (fld ! refl (stop !))) (look-in ! 38 (sub ! 2 refl (whole !))))) (from ! (stop !)) (init ! 62 refl (LL.lawful ReaderReplyT.the-type ReaderReplyL.the-laws 𝓤 H A W .typed (t2 .reply) _ (LL.owed ShareStepT.the-type ShareStepL.the-laws t2 _ is2 .1 .1 .0) .0)) $
+        use1 W (some (λ (ws1 : Unit {0} × (Unit {0} × (List ℕ × (List ℕ × (List ℕ × (List ℕ × (List SharedReadMark × (Unit {0} × (Unit {0} × (Unit {0} × Unit {0})))))))))). ‵ (lasts wal-register-reader-for-snapshot-fn.ended (κ0, (κ1, (κ2, (κ3, (κ4, (κ5, tt)))))) (args-wal-register-reader-for-snapshot) ws1) ⊛ raw (fact 𝓤 (Says-wal-register-reader-for-snapshot t1 (ws1 .1 .1 .0) (ws1 .1 .1 .1 .0) (ws1 .1 .1 .1 .1 .0) (ws1 .1 .1 .1 .1 .1 .0) (ws1 .1 .1 .1 .1 .1 .1 .0))))) (id⊢ 𝓤 _) $ pick ! (λ ws1.
+        split ! $ move ! (1 ∷ []) $ heard ! (Says-wal-register-reader-for-snapshot t1 (ws1 .1 .1 .0) (ws1 .1 .1 .1 .0) (ws1 .1 .1 .1 .1 .0) (ws1 .1 .1 .1 .1 .1 .0) (ws1 .1 .1 .1 .1 .1 .1 .0)) (λ e1. fsplit ! $ drop ! $
+        fsplit ! $ drop ! $ fsplit ! $ fsplit ! $ move ! (1 ∷ []) $ feqL ! (λ long-bitmap. move ! (1 ∷ []) $ fsplit ! $ fsplit ! $ move ! (1 ∷ []) $ feqL ! (λ long-reader-frames. move ! (1 ∷ []) $ fsplit ! $ fsplit ! $
+        move ! (1 ∷ []) $ feqL ! (λ long-reader-owners. move ! (1 ∷ []) $ fsplit ! $ fsplit ! $ move ! (1 ∷ []) $ feqL ! (λ long-local-readers. move ! (1 ∷ []) $ fsplit ! $ fsplit ! $ move ! (1 ∷ []) $ feqL ! (λ long-registry.
+        move ! (1 ∷ []) $ drop ! $ move ! (5 ∷ []) $ split ! $ move ! (1 ∷ []) $ peeks ! ReaderReplyT.the-row (Is ReaderReplyT.the-row) (shows 𝓤 H A ReaderReplyT.the-row) t1 (v1 ∷ []) (λ is1. drop ! $
+        land ! (from ! (stop !)) (init ! 45 refl (LL.lawful ReaderReplyT.the-type ReaderReplyL.the-laws 𝓤 H A W .typed t1 _ is1 .0)) $
+        rewrite ! 45 (λ (u : Val). ‵ (fat fullShare ReaderReplyL.mir l₀ 0 u)) (ap only (LL.tells ReaderReplyT.the-type ReaderReplyL.the-laws t1 (v1 ∷ []) is1)) refl $ split ! $ move ! (1 ∷ []) $ split ! $ move ! (1 ∷ []) $
+        split ! $ move ! (1 ∷ []) $ split ! $ move ! (1 ∷ []) $ split ! $ move ! (1 ∷ []) $ split ! $ move ! (1 ∷ []) $ drop ! $
         -- the end
-        returns ! (look ! 62 refl) $ forget ! 12 refl $ forget ! 14 refl $ forget ! 16 refl $ forget ! 18 refl $ forget ! 20 refl $ forget ! 22 refl $ forget ! 24 refl $ forget ! 26 refl $ forget ! 28 refl $ forget ! 30 refl $
-        forget ! 32 refl $ forget ! 34 refl $ forget ! 36 refl $ forget ! 38 refl $ forget ! 40 refl $ forget ! 42 refl $ forget ! 44 refl $ forget ! 46 refl $ forget ! 48 refl $ forget ! 50 refl $ forget ! 52 refl $
-        forget ! 54 refl $ forget ! 56 refl $ forget ! 58 refl $ forget ! 60 refl $ forget ! 62 refl $ move ! (62 ∷ 63 ∷ []) $ free1 ! $ move ! (60 ∷ 61 ∷ []) $ free1 ! $ move ! (58 ∷ 59 ∷ []) $ free1 ! $ move ! (56 ∷ 57 ∷ []) $
-        free1 ! $ move ! (54 ∷ 55 ∷ []) $ free1 ! $ move ! (52 ∷ 53 ∷ []) $ free1 ! $ move ! (50 ∷ 51 ∷ []) $ free1 ! $ move ! (48 ∷ 49 ∷ []) $ free1 ! $ move ! (46 ∷ 47 ∷ []) $ free1 ! $ move ! (44 ∷ 45 ∷ []) $ free1 ! $
-        move ! (42 ∷ 43 ∷ []) $ free1 ! $ move ! (40 ∷ 41 ∷ []) $ free1 ! $ move ! (38 ∷ 39 ∷ []) $ free1 ! $ move ! (36 ∷ 37 ∷ []) $ free1 ! $ move ! (34 ∷ 35 ∷ []) $ free1 ! $ move ! (32 ∷ 33 ∷ []) $ free1 ! $
-        move ! (30 ∷ 31 ∷ []) $ free1 ! $ move ! (28 ∷ 29 ∷ []) $ free1 ! $ move ! (26 ∷ 27 ∷ []) $ free1 ! $ move ! (24 ∷ 25 ∷ []) $ free1 ! $ move ! (22 ∷ 23 ∷ []) $ free1 ! $ move ! (20 ∷ 21 ∷ []) $ free1 ! $
-        move ! (18 ∷ 19 ∷ []) $ free1 ! $ move ! (16 ∷ 17 ∷ []) $ free1 ! $ move ! (14 ∷ 15 ∷ []) $ free1 ! $ move ! (12 ∷ 13 ∷ []) $ free1 ! $ free0 ! $ nothing ! $ move ! (3 ∷ 0 ∷ []) $ join ! $ move ! (1 ∷ 0 ∷ []) $ join ! $
-        move ! (2 ∷ 0 ∷ []) $ join ! $ move ! (2 ∷ 0 ∷ []) $ join ! $ move ! (2 ∷ 0 ∷ []) $ join ! $ move ! (2 ∷ 0 ∷ []) $ join ! $ keep ! (0 ∷ 5 ∷ 4 ∷ 3 ∷ 2 ∷ 1 ∷ 6 ∷ []) $
-        by ! (exits (t2 .reply) (LL.owed ShareStepT.the-type ShareStepL.the-laws t2 _ is2 .1 .1 .0) (ws2 .1 .1 .0) (ws2 .1 .1 .1 .0) (ws2 .1 .1 .1 .1 .0) (ws2 .1 .1 .1 .1 .1 .0) (ws3 .0) (plan-taken _ _ _ _ _ _ _ _ _ _ _ _ _ _ _ _ ys _ e2 e1 e3) long-bitmap long-reader-frames long-reader-owners long-local-readers long-registry)))))))))))))))))))))))))))))))))))))))))))))))))
+        returns ! (look ! 50 refl) $ forget ! 12 refl $ forget ! 14 refl $ forget ! 16 refl $ forget ! 18 refl $ forget ! 20 refl $ forget ! 22 refl $ forget ! 24 refl $ forget ! 26 refl $ forget ! 28 refl $ forget ! 30 refl $
+        forget ! 32 refl $ forget ! 34 refl $ forget ! 36 refl $ forget ! 38 refl $ forget ! 40 refl $ forget ! 42 refl $ forget ! 44 refl $ forget ! 46 refl $ forget ! 48 refl $ forget ! 50 refl $ move ! (50 ∷ 51 ∷ []) $
+        free1 ! $ move ! (48 ∷ 49 ∷ []) $ free1 ! $ move ! (46 ∷ 47 ∷ []) $ free1 ! $ move ! (44 ∷ 45 ∷ []) $ free1 ! $ move ! (42 ∷ 43 ∷ []) $ free1 ! $ move ! (40 ∷ 41 ∷ []) $ free1 ! $ move ! (38 ∷ 39 ∷ []) $ free1 ! $
+        move ! (36 ∷ 37 ∷ []) $ free1 ! $ move ! (34 ∷ 35 ∷ []) $ free1 ! $ move ! (32 ∷ 33 ∷ []) $ free1 ! $ move ! (30 ∷ 31 ∷ []) $ free1 ! $ move ! (28 ∷ 29 ∷ []) $ free1 ! $ move ! (26 ∷ 27 ∷ []) $ free1 ! $
+        move ! (24 ∷ 25 ∷ []) $ free1 ! $ move ! (22 ∷ 23 ∷ []) $ free1 ! $ move ! (20 ∷ 21 ∷ []) $ free1 ! $ move ! (18 ∷ 19 ∷ []) $ free1 ! $ move ! (16 ∷ 17 ∷ []) $ free1 ! $ move ! (14 ∷ 15 ∷ []) $ free1 ! $
+        move ! (12 ∷ 13 ∷ []) $ free1 ! $ free0 ! $ nothing ! $ move ! (1 ∷ 0 ∷ []) $ join ! $ move ! (1 ∷ 0 ∷ []) $ join ! $ move ! (1 ∷ 0 ∷ []) $ join ! $ move ! (1 ∷ 0 ∷ []) $ join ! $ move ! (1 ∷ 0 ∷ []) $ join ! $
+        move ! (1 ∷ 0 ∷ []) $ join ! $ keep ! (0 ∷ 5 ∷ 4 ∷ 3 ∷ 2 ∷ 1 ∷ 6 ∷ []) $
+        by ! (exits t1 (subst (Is ReaderReplyT.the-row t1) (LL.tells ReaderReplyT.the-type ReaderReplyL.the-laws t1 (v1 ∷ []) is1) is1) (ws1 .1 .1 .0) (ws1 .1 .1 .1 .0) (ws1 .1 .1 .1 .1 .0) (ws1 .1 .1 .1 .1 .1 .0) (ws1 .1 .1 .1 .1 .1 .1 .0) (e1) long-bitmap long-reader-frames long-reader-owners long-local-readers long-registry)))))))))))))))))))))))))))))))
 
 module _ {M : Type 1} (𝓤 : URA M) (H : Heap 𝓤) (A : Atoms 𝓤) (W : Given 𝓤 H A) (mem : Memory → SProp 𝓤) (run : Routine → Fun 𝓤) where
-  entry-walks : (C : Calls 𝓤 H) (Λ : Loops 𝓤 H) → FmC 𝓤 H (W .laws) C → Triple 𝓤 (C #reader-registry·look-through) (Meets-look-through 𝓤 H A mem run) → Triple 𝓤 (C #c-readers·registry-steps·register-reader-for-snapshot) (Meets-register-reader-for-snapshot 𝓤 H A mem run) → Triple 𝓤 (C #reader-registry·put-record) (Meets-put-record 𝓤 H A mem run) → Walks 𝓤 H A entry.ended stayed (WpFn 𝓤 H C Λ code.function) (entry.clauses 𝓤 H A mem run)
-  entry-walks C Λ fm known-look-through known-register-reader-for-snapshot known-put-record = walked 𝓤 H A entry.ended stayed (entry.clauses 𝓤 H A mem run) (WpFn 𝓤 H C Λ code.function)
+  entry-walks : (C : Calls 𝓤 H) (Λ : Loops 𝓤 H) → FmC 𝓤 H (W .laws) C → Triple 𝓤 (C #c-readers·reader-calls·wal-register-reader-for-snapshot) (Meets-wal-register-reader-for-snapshot 𝓤 H A mem run) → Walks 𝓤 H A entry.ended stayed (WpFn 𝓤 H C Λ code.function) (entry.clauses 𝓤 H A mem run)
+  entry-walks C Λ fm known-wal-register-reader-for-snapshot = walked 𝓤 H A entry.ended stayed (entry.clauses 𝓤 H A mem run) (WpFn 𝓤 H C Λ code.function)
       (λ κs. (uint-vals w64, (uint-vals w32, (slice-vals, (slice-vals, (slice-vals, (slice-vals, (slice-vals, (slice-vals, (uint-vals w64, tt)))))))))) (λ κs. (uint-tells w64, (uint-tells w32, (mut-slice-tells (named 0) (κs .0) u64, (mut-slice-tells (named 1) (κs .1 .0) u64, (mut-slice-tells (named 2) (κs .1 .1 .0) u64, (mut-slice-tells (named 3) (κs .1 .1 .1 .0) u64, (mut-slice-tells (named 4) (κs .1 .1 .1 .1 .0) SharedReadMarkT.the-row, (shr-slice-tells (named 5) (κs .1 .1 .1 .1 .1 .0) u8, (uint-tells w64, tt))))))))))
       (λ κs qs bounds a g are. via 𝓤 _ (fst∗ 𝓤 _ (emp 𝓤))
-      (walk 𝓤 H A W mem run (κs .0) (κs .1 .0) (κs .1 .1 .0) (κs .1 .1 .1 .0) (κs .1 .1 .1 .1 .0) (κs .1 .1 .1 .1 .1 .0) (qs .0) (qs .1 .0) (qs .1 .1 .0) (qs .1 .1 .1 .0) (qs .1 .1 .1 .1 .0) (qs .1 .1 .1 .1 .1 .0) (a .1 .1 .1 .1 .1 .1 .0 .ptr .0) (a .1 .1 .1 .1 .1 .1 .0 .ptr .1) (a .1 .1 .1 .1 .1 .1 .0 .name) (a .1 .1 .1 .1 .1 .1 .0 .now) (a .0) (a .1 .0) (a .1 .1 .0) (a .1 .1 .1 .0) (a .1 .1 .1 .1 .0) (a .1 .1 .1 .1 .1 .0) (a .1 .1 .1 .1 .1 .1 .1 .0) (a .1 .1 .1 .1 .1 .1 .1 .1 .0) (are .0 .1) (are .1 .0 .1) (are .1 .1 .0 .0 .1) (are .1 .1 .1 .0 .0 .1) (are .1 .1 .1 .1 .0 .0 .1) (are .1 .1 .1 .1 .1 .0 .0 .1) (are .1 .1 .1 .1 .1 .1 .0 .0 .1) (are .1 .1 .1 .1 .1 .1 .1 .0 .0 .1) (are .1 .1 .1 .1 .1 .1 .1 .1 .0 .1) C Λ fm known-look-through known-register-reader-for-snapshot known-put-record))
+      (walk 𝓤 H A W mem run (κs .0) (κs .1 .0) (κs .1 .1 .0) (κs .1 .1 .1 .0) (κs .1 .1 .1 .1 .0) (κs .1 .1 .1 .1 .1 .0) (qs .0) (qs .1 .0) (qs .1 .1 .0) (qs .1 .1 .1 .0) (qs .1 .1 .1 .1 .0) (qs .1 .1 .1 .1 .1 .0) (a .1 .1 .1 .1 .1 .1 .0 .ptr .0) (a .1 .1 .1 .1 .1 .1 .0 .ptr .1) (a .1 .1 .1 .1 .1 .1 .0 .name) (a .1 .1 .1 .1 .1 .1 .0 .now) (a .0) (a .1 .0) (a .1 .1 .0) (a .1 .1 .1 .0) (a .1 .1 .1 .1 .0) (a .1 .1 .1 .1 .1 .0) (a .1 .1 .1 .1 .1 .1 .1 .0) (a .1 .1 .1 .1 .1 .1 .1 .1 .0) (are .0 .1) (are .1 .0 .1) (are .1 .1 .0 .0 .1) (are .1 .1 .1 .0 .0 .1) (are .1 .1 .1 .1 .0 .0 .1) (are .1 .1 .1 .1 .1 .0 .0 .1) (are .1 .1 .1 .1 .1 .1 .0 .0 .1) (are .1 .1 .1 .1 .1 .1 .1 .0 .0 .1) (are .1 .1 .1 .1 .1 .1 .1 .1 .0 .1) C Λ fm known-wal-register-reader-for-snapshot))
 
-entry-meets : {M : Type 1} (𝓤 : URA M) (H : Heap 𝓤) (A : Atoms 𝓤) (W : Given 𝓤 H A) (mem : Memory → SProp 𝓤) (run : Routine → Fun 𝓤) (𝓣 : Tables 𝓤 H) → Triple 𝓤 (𝓣 .C #reader-registry·look-through) (Meets-look-through 𝓤 H A mem run) → Triple 𝓤 (𝓣 .C #c-readers·registry-steps·register-reader-for-snapshot) (Meets-register-reader-for-snapshot 𝓤 H A mem run) → Triple 𝓤 (𝓣 .C #reader-registry·put-record) (Meets-put-record 𝓤 H A mem run)
+entry-meets : {M : Type 1} (𝓤 : URA M) (H : Heap 𝓤) (A : Atoms 𝓤) (W : Given 𝓤 H A) (mem : Memory → SProp 𝓤) (run : Routine → Fun 𝓤) (𝓣 : Tables 𝓤 H) → Triple 𝓤 (𝓣 .C #c-readers·reader-calls·wal-register-reader-for-snapshot) (Meets-wal-register-reader-for-snapshot 𝓤 H A mem run)
     → Meets 𝓤 H A entry.signature (WpFn 𝓤 H (𝓣 .C) (𝓣 .Λ) code.function) (entry.spec 𝓤 H A mem run)
-entry-meets 𝓤 H A W mem run 𝓣 known-look-through known-register-reader-for-snapshot known-put-record =
+entry-meets 𝓤 H A W mem run 𝓣 known-wal-register-reader-for-snapshot =
     walk-meets 𝓤 H A entry.ended stayed W (goes-none 𝓤 H A W 6 (λ _. usize) yes (λ κs x f. refl), (goes-none 𝓤 H A W 6 (λ _. u32) yes (λ κs x f. refl), (goes-gave-slice 𝓤 H A W 6 0 tt (plain (λ _. u64)), (goes-gave-slice 𝓤 H A W 6 1 tt (plain (λ _. u64)), (goes-gave-slice 𝓤 H A W 6 2 tt (plain (λ _. u64)), (goes-gave-slice 𝓤 H A W 6 3 tt (plain (λ _. u64)), (goes-gave-slice 𝓤 H A W 6 4 tt (plain (λ _. SharedReadMarkT.the-row)), (goes-none-slice 𝓤 H A W 6 (5 ∷ []) tt (plain (λ _. u8)) yes, (goes-none 𝓤 H A W 6 (λ _. u64) yes (λ κs x f. refl), tt))))))))) (entry.clauses 𝓤 H A mem run)
-    (WpFn 𝓤 H (𝓣 .C) (𝓣 .Λ) code.function) (WpFn-mono 𝓤 H (W .laws) 𝓣 code.function) (entry-walks 𝓤 H A W mem run (𝓣 .C) (𝓣 .Λ) (fmOf 𝓤 H (W .laws) 𝓣) known-look-through known-register-reader-for-snapshot known-put-record)
+    (WpFn 𝓤 H (𝓣 .C) (𝓣 .Λ) code.function) (WpFn-mono 𝓤 H (W .laws) 𝓣 code.function) (entry-walks 𝓤 H A W mem run (𝓣 .C) (𝓣 .Λ) (fmOf 𝓤 H (W .laws) 𝓣) known-wal-register-reader-for-snapshot)
 
 pub wal-register-db-file-reader-spec : {M : Type 1} → stated.statement M
 unfolding code.routine tablesOf
@@ -278,6 +190,4 @@ wal-register-db-file-reader-spec 𝓤 H 𝓜 𝓖 𝓡 =
     entered 𝓤 H (tripleOf 𝓤 H (𝓖 .A) entry.signature (entry.spec 𝓤 H (𝓖 .A) (𝓜 .mem) (𝓡 .run)))
     (tables 𝓤 H 𝓜 𝓡 code.env .C) (tables 𝓤 H 𝓜 𝓡 code.env .Λ) #c-readers·reader-calls·wal-register-db-file-reader code.function (code.unfolded 𝓤 H 𝓜 𝓡)
     (entry-meets 𝓤 H (𝓖 .A) (givenOf 𝓤 H 𝓜 𝓖) (𝓜 .mem) (𝓡 .run) (tablesOf 𝓤 H 𝓜 (tables 𝓤 H 𝓜 𝓡 code.env))
-    (cited 𝓤 H (Meets-look-through 𝓤 H (𝓖 .A) (𝓜 .mem) (𝓡 .run)) 𝓜 𝓡 code.env #reader-registry·look-through look-through-def.routine code.calls-reader-registry·look-through (look-through-thm.met 𝓤 H 𝓜 𝓖 𝓡))
-    (cited 𝓤 H (Meets-register-reader-for-snapshot 𝓤 H (𝓖 .A) (𝓜 .mem) (𝓡 .run)) 𝓜 𝓡 code.env #c-readers·registry-steps·register-reader-for-snapshot register-reader-for-snapshot-def.routine code.calls-c-readers·registry-steps·register-reader-for-snapshot (register-reader-for-snapshot-thm.met 𝓤 H 𝓜 𝓖 𝓡))
-    (cited 𝓤 H (Meets-put-record 𝓤 H (𝓖 .A) (𝓜 .mem) (𝓡 .run)) 𝓜 𝓡 code.env #reader-registry·put-record put-record-def.routine code.calls-reader-registry·put-record (put-record-thm.met 𝓤 H 𝓜 𝓖 𝓡)))
+    (cited 𝓤 H (Meets-wal-register-reader-for-snapshot 𝓤 H (𝓖 .A) (𝓜 .mem) (𝓡 .run)) 𝓜 𝓡 code.env #c-readers·reader-calls·wal-register-reader-for-snapshot wal-register-reader-for-snapshot-def.routine code.calls-c-readers·reader-calls·wal-register-reader-for-snapshot (wal-register-reader-for-snapshot-thm.met 𝓤 H 𝓜 𝓖 𝓡)))
