@@ -11,11 +11,13 @@ use borrow.Author.Tests.{ne-eqb}
 use Rattle.wal_types.specs.declared.Header.{Header}
 use Rattle.wal_types.specs.declared.SharedWalOwnershipMode.the-variants.{LinuxOfd}
 use Rattle.wal_types.specs.Settings.{unused}
-use Rattle.wal_types.specs.Memory.{Memory, Process, with-header, with-local-readers, with-registry, no-mark, blank-process, slot-bit, bit-at}
+use Rattle.wal_types.specs.Memory.{Memory, Process, with-header, with-local-readers, with-registry, no-mark, blank-process, slot-bit, bit-at, header-with, frame-index-len, max-frame, transaction-count, visibility-generation}
 use Rattle.wal_types.specs.Call.{Pair, pair, Answer, refused, ok, value, stored, kept, frame-found, listed, slot-taken, accepted, Done, done, after}
 use Rattle.reader_bitmap.specs.Bit.{clear-bit}
 use Rattle.header_publish.specs.Publish.{publish-commit}
+use Rattle.wal_types.specs.Fresh.{fresh-header}
 use Rattle.index_end.specs.declared.cells.IndexCells.{IndexCells}
+use Rattle.index_end.specs.Cells.{cells-of}
 use Rattle.index_end.specs.declared.place.Place.the-variants.{AtEnd}
 use Rattle.index_find.specs.declared.find.Watermark.the-variants.{NoWatermark}
 use Rattle.index_find.specs.declared.find.Lookup.the-variants.{Frame, NoFrame}
@@ -95,25 +97,11 @@ fresh =
 -- a header with so many entries, a published frame and so many publishes
 abbrev header-of : ℕ → ℕ → ℕ → Header
 header-of len published count =
-    record {
-      «frame_index_blocks» = 1;
-      «frame_index_len» = len;
-      «frame_index_overflowed» = 0;
-      «max_frame» = published;
-      nbackfills = 0;
-      «transaction_count» = count;
-      «visibility_generation» = count;
-      «checkpoint_seq» = 0;
-      «checkpoint_epoch» = 0;
-      «checksum_1» = 0;
-      «checksum_2» = 0;
-      «writer_owner» = 0;
-      «checkpoint_owner» = 0;
-    }
+    header-with frame-index-len len (header-with max-frame published (header-with transaction-count count (header-with visibility-generation count (fresh-header 1 0 0))))
 
 -- the index's cells with so many entries, and the published frame
 abbrev cells-at : ℕ → ℕ → IndexCells
-cells-at len published = record { «frame_index_blocks» = 1; «frame_index_len» = len; «frame_index_overflowed» = 0; «max_frame» = published }
+cells-at len published = cells-of (header-of len published 0)
 
 -- a record above the last frame is stored at the end
 module _ (page frame : ℕ) (m : Memory) (g : Grown 4096 1 m) (h : IndexCells) (end : placed 4096 1 false (started frame (m .header)) ≡ AtEnd h) (order : out-of-order frame (h .«frame_index_len») (m .frames) ≡ false) where
