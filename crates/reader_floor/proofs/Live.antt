@@ -14,19 +14,18 @@ use Rattle.wal_types.specs.Memory.{Memory, Process, blank-memory, blank-process
 use Rattle.reader_slots.specs.declared.slots.Slot.{Slot}
 use Rattle.reader_probe.specs.declared.live.Floor.{Floor}
 use Rattle.reader_probe.specs.declared.live.Floor.the-variants.{NoMark}
-use Rattle.reader_probe.specs.declared.live.SlotState.{SlotState}
+use Rattle.reader_probe.specs.declared.live.LiveFrame.{LiveFrame}
 use Rattle.reader_slots.specs.Slots.{granted, slots-in, locals-in}
 use Rattle.reader_slots.specs.Search.{lowest-slot}
 use Rattle.reader_probe.specs.Live.{dead, live, lower-floor, looked-at}
 use Rattle.reader_floor.specs.Floor.{floor-from, floor-of}
 use Rattle.reader_slots.specs.Inner.{emptied-if, SlotsBecome}
-use Rattle.reader_probe.specs.Inner.{skipped-cell, counted-cell, live-by, live-db-file-by, state-by, floor-with, is-db-file}
+use Rattle.reader_probe.specs.Inner.{skipped-cell, live-by, live-db-file-by, live-frame, floor-with, is-db-file}
 use Rattle.reader_floor.specs.Inner.{FloorOf, DbFileOf}
 use Rattle.reader_slots.proofs.Cells.{getD-any, live-not-dead}
 use Rattle.reader_slots.proofs.Emptied.{emptied-slot, emptied, emptied-done, emptied-next}
 use Rattle.reader_slots.proofs.Lowest.{lowest-here, lowest-next, lowest-done}
 use Rattle.reader_probe.proofs.Looked.{looked-bound}
-use Rattle.reader_probe.proofs.Marks.{floor-state, db-file-state}
 
 -- the slots from i on are as they were
 pub record SameFrom (i : ℕ) (f o f₀ o₀ : List ℕ) : Type 0 where
@@ -55,10 +54,10 @@ module _ (mode : SharedWalOwnershipMode) (i : ℕ) (b f o b′ f′ o′ : List 
       }
 
 -- one slot's answer, by the lists as they were
-abbrev Told : SharedWalOwnershipMode → List ℕ → List ℕ → List ℕ → List ℕ → ℕ → SlotState → Type 0
-Told mode bytes f o l i r = r ≡ state-by mode bytes f o l i
+abbrev Told : SharedWalOwnershipMode → List ℕ → List ℕ → List ℕ → List ℕ → ℕ → LiveFrame → Type 0
+Told mode bytes f o l i r = r ≡ live-frame (live-by mode bytes f o l i) (getD f i 0)
 
-told-before : (mode : SharedWalOwnershipMode) (bytes f o l f₀ o₀ : List ℕ) (i : ℕ) (r : SlotState) → SameFrom i f o f₀ o₀ → Told mode bytes f o l i r → Told mode bytes f₀ o₀ l i r
+told-before : (mode : SharedWalOwnershipMode) (bytes f o l f₀ o₀ : List ℕ) (i : ℕ) (r : LiveFrame) → SameFrom i f o f₀ o₀ → Told mode bytes f o l i r → Told mode bytes f₀ o₀ l i r
 told-before mode bytes f o l f₀ o₀ i r s e =
     e ∙ rw (s .frames-same i unused (omega arith), s .frames-same i 0 (omega arith), s .owners-same i 0 (omega arith))
 
@@ -67,6 +66,10 @@ pub record FloorSoFar (n : ℕ) (mode : SharedWalOwnershipMode) (bytes b₀ f₀
   pub same : SameFrom i f o f₀ o₀
   pub least : (z : Memory) (p : Process) → floor-from mode bytes (locals-in p l) (slots-in z b₀ f₀ o₀) (n - i) i so-far ≡ floor-of n mode bytes (slots-in z b₀ f₀ o₀) (locals-in p l)
   pub reclaimed : (z : Memory) (p : Process) → emptied mode (dead mode bytes (locals-in p l)) (n - i) i (slots-in z b f o) ≡ emptied mode (dead mode bytes (locals-in p l)) n 0 (slots-in z b₀ f₀ o₀)
+
+floor-told : (t : Bool) (frame : ℕ) (so-far : Floor) → floor-with so-far (live-frame t frame) ≡ cond t (lower-floor so-far frame) so-far
+floor-told true frame so-far = refl
+floor-told false frame so-far = refl
 
 floor-next : (mode : SharedWalOwnershipMode) (bytes : List ℕ) (p : Process) (m : Memory) (left less i : ℕ) (so-far whole : Floor) → floor-from mode bytes p m left i so-far ≡ whole → left ≡ suc less → floor-from mode bytes p m less (i + 1) (cond (live mode bytes p m i) (lower-floor so-far (getD (m .reader-frames) i 0)) so-far) ≡ whole
 unfolding floor-from
@@ -85,12 +88,12 @@ floor-start n mode bytes b f o l =
     }
 
 module _ (n : ℕ) (mode : SharedWalOwnershipMode) (bytes b₀ f₀ o₀ l : List ℕ) (i : ℕ) (b f o : List ℕ) (so-far : Floor) (h : FloorSoFar n mode bytes b₀ f₀ o₀ l i b f o so-far) where
-  pub floor-turn : i < n → (b′ f′ o′ : List ℕ) (r : SlotState) → Told mode bytes f o l i r × SlotsBecome (λ m p. emptied-if mode (dead mode bytes p m i) i m) b f o l b′ f′ o′ → FloorSoFar n mode bytes b₀ f₀ o₀ l (i + 1) b′ f′ o′ (floor-with so-far r)
+  pub floor-turn : i < n → (b′ f′ o′ : List ℕ) (r : LiveFrame) → Told mode bytes f o l i r × SlotsBecome (λ m p. emptied-if mode (dead mode bytes p m i) i m) b f o l b′ f′ o′ → FloorSoFar n mode bytes b₀ f₀ o₀ l (i + 1) b′ f′ o′ (floor-with so-far r)
   floor-turn lt b′ f′ o′ r e =
       record {
         same = same-next mode i b f o b′ f′ o′ bytes l f₀ o₀ (h .same) (e .1);
         least =
-            λ z p. rw (told-before mode bytes f o l f₀ o₀ i r (h .same) (e .0), floor-state (skipped-cell mode (getD f₀ i unused) (getD o₀ i 0)) (counted-cell (getD l i 0) (getD bytes i 0)) (getD f₀ i 0) so-far)
+            λ z p. rw (told-before mode bytes f o l f₀ o₀ i r (h .same) (e .0), floor-told (live-by mode bytes f₀ o₀ l i) (getD f₀ i 0) so-far)
             (floor-next mode bytes (locals-in p l) (slots-in z b₀ f₀ o₀) (n - i) (n - (i + 1)) i so-far (floor-of n mode bytes (slots-in z b₀ f₀ o₀) (locals-in p l)) (h .least z p) (omega arith));
         reclaimed = λ z p. emptied-next mode (dead mode bytes (locals-in p l)) (n - i) i (slots-in z b f o) (emptied mode (dead mode bytes (locals-in p l)) n 0 (slots-in z b₀ f₀ o₀)) (h .reclaimed z p) (n - (i + 1)) (omega arith) (slots-in z b′ f′ o′) (e .1 z p);
       }
@@ -119,6 +122,10 @@ db-file-start n mode bytes b f o l =
       reclaimed = λ z p. rw (sub-zero (looked-at n (first-db-file n mode bytes f o l)));
     }
 
+told-db-file : (t : Bool) (frame : ℕ) → is-db-file (live-frame t frame) ≡ (t && eqb frame 0)
+told-db-file true frame = refl
+told-db-file false frame = refl
+
 both-left : (a c : Bool) → (a && c) ≡ true → a ≡ true
 both-left true c e = refl
 both-left false c e = e
@@ -127,10 +134,10 @@ module _ (n : ℕ) (mode : SharedWalOwnershipMode) (bytes b₀ f₀ o₀ l : Lis
   abbrev k : Slot
   k = first-db-file n mode bytes f₀ o₀ l
 
-  module _ (lt : i < n) (cell : i < length f) (b′ f′ o′ : List ℕ) (r : SlotState) (e : Told mode bytes f o l i r × SlotsBecome (λ m p. emptied-if mode (dead mode bytes p m i) i m) b f o l b′ f′ o′) where
+  module _ (lt : i < n) (cell : i < length f) (b′ f′ o′ : List ℕ) (r : LiveFrame) (e : Told mode bytes f o l i r × SlotsBecome (λ m p. emptied-if mode (dead mode bytes p m i) i m) b f o l b′ f′ o′) where
     -- the test of slot i, by the lists now and as they were
     db-now : is-db-file r ≡ live-db-file-by mode bytes f o l i
-    db-now = rw (e .0, db-file-state (skipped-cell mode (getD f i unused) (getD o i 0)) (counted-cell (getD l i 0) (getD bytes i 0)) (getD f i 0), getD-any f i 0 unused cell)
+    db-now = rw (e .0, told-db-file (live-by mode bytes f o l i) (getD f i 0), getD-any f i 0 unused cell)
 
     db-before : is-db-file r ≡ live-db-file-by mode bytes f₀ o₀ l i
     db-before = db-now ∙ rw (h .same .frames-same i unused (omega arith), h .same .owners-same i 0 (omega arith))

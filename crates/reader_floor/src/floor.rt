@@ -41,7 +41,7 @@ fn live_floor(
 {
     let mut floor = Floor::NoMark;
     for slot in 0..n {
-        let state = live::live_reader_frame(
+        let live = live::live_reader_frame(
             mode,
             bitmap,
             reader_frames,
@@ -50,7 +50,7 @@ fn live_floor(
             card,
             slot,
         );
-        floor = live::lower_floor(floor, state);
+        floor = live::lower_floor(floor, live);
     }
     floor
 }
@@ -110,7 +110,7 @@ fn finds_db_file_reader(
     ensures { λ r. ⌜ DbFileOf n mode (now (card .entry)) (now (bitmap .entry)) (now («reader_frames» .entry)) (now («reader_owners» .entry)) (now («local_readers» .entry)) r (now (bitmap .exit)) (now («reader_frames» .exit)) (now («reader_owners» .exit)) ⌝ }
 {
     for slot in 0..n {
-        let state = live::live_reader_frame(
+        let live = live::live_reader_frame(
             mode,
             bitmap,
             reader_frames,
@@ -119,7 +119,7 @@ fn finds_db_file_reader(
             card,
             slot,
         );
-        if live::is_db_file_reader(state) {
+        if live::is_db_file_frame(live) {
             return true;
         }
     }

@@ -11,8 +11,8 @@ use Rattle.wal_types.specs.Refusal.{_if_, lowest, card, probe}
 use Rattle.reader_slots.specs.Slots.{bad-card}
 use Rattle.reader_slots.specs.Search.{some-slot}
 use Rattle.reader_probe.specs.declared.live.Floor.{Floor}
-use Rattle.reader_probe.specs.declared.live.SlotState.{SlotState}
-use Rattle.reader_probe.specs.declared.live.SlotState.the-variants.{Skipped, Live, Dead}
+use Rattle.reader_probe.specs.declared.live.LiveFrame.{LiveFrame}
+use Rattle.reader_probe.specs.declared.live.LiveFrame.the-variants.{Frame, NotLive}
 use Rattle.reader_probe.specs.Live.{lower-floor}
 
 -- the floor's tests of a slot, by its frame, owner, local owner and card byte alone
@@ -23,12 +23,8 @@ abbrev pub failed-cell : SharedWalOwnershipMode → ℕ → ℕ → ℕ → ℕ 
 failed-cell mode frame owner local byte =
     not (is-fcntl mode) && not (skipped-cell mode frame owner) && not (not (eqb local 0)) && eqb byte 2
 
--- held here, or not granted: counted unless it is skipped
-abbrev pub counted-cell : ℕ → ℕ → Bool
-counted-cell local byte = not (eqb local 0) || not (eqb byte 1)
-
 abbrev pub live-cell : SharedWalOwnershipMode → ℕ → ℕ → ℕ → ℕ → Bool
-live-cell mode frame owner local byte = not (skipped-cell mode frame owner) && counted-cell local byte
+live-cell mode frame owner local byte = not (skipped-cell mode frame owner) && (not (eqb local 0) || not (eqb byte 1))
 
 -- the same by the slot frames f, the slot owners o and the local owners l
 abbrev pub failed-by : SharedWalOwnershipMode → List ℕ → List ℕ → List ℕ → List ℕ → ℕ → Bool
@@ -37,31 +33,18 @@ failed-by mode bytes f o l i = failed-cell mode (getD f i unused) (getD o i 0) (
 abbrev pub live-by : SharedWalOwnershipMode → List ℕ → List ℕ → List ℕ → List ℕ → ℕ → Bool
 live-by mode bytes f o l i = live-cell mode (getD f i unused) (getD o i 0) (getD l i 0) (getD bytes i 0)
 
--- what a slot is, by whether it is skipped and whether it is counted; and by lists
-abbrev pub state-of : Bool → Bool → ℕ → SlotState
-state-of true counted frame = Skipped
-state-of false true frame = Live frame
-state-of false false frame = Dead
+-- a live slot's mark, or none; and the floor so far with it
+abbrev pub live-frame : Bool → ℕ → LiveFrame
+live-frame true frame = Frame frame
+live-frame false frame = NotLive
 
-abbrev pub state-by : SharedWalOwnershipMode → List ℕ → List ℕ → List ℕ → List ℕ → ℕ → SlotState
-state-by mode bytes f o l i =
-    state-of (skipped-cell mode (getD f i unused) (getD o i 0)) (counted-cell (getD l i 0) (getD bytes i 0)) (getD f i 0)
+abbrev pub floor-with : Floor → LiveFrame → Floor
+floor-with so-far (Frame frame) = lower-floor so-far frame
+floor-with so-far NotLive = so-far
 
-abbrev pub is-dead : SlotState → Bool
-is-dead Skipped = false
-is-dead (Live frame) = false
-is-dead Dead = true
-
--- the floor so far with a slot's mark, if the slot is live
-abbrev pub floor-with : Floor → SlotState → Floor
-floor-with so-far Skipped = so-far
-floor-with so-far (Live frame) = lower-floor so-far frame
-floor-with so-far Dead = so-far
-
-abbrev pub is-db-file : SlotState → Bool
-is-db-file Skipped = false
-is-db-file (Live frame) = eqb frame 0
-is-db-file Dead = false
+abbrev pub is-db-file : LiveFrame → Bool
+is-db-file (Frame frame) = eqb frame 0
+is-db-file NotLive = false
 
 -- a live slot of mark 0 whose probe does not fail, by its cells and by lists; and without the probe
 abbrev pub db-file-cell : SharedWalOwnershipMode → ℕ → ℕ → ℕ → ℕ → Bool

@@ -1,5 +1,4 @@
-// One slot, as the floor and has_active_db_file_reader meet it: skipped, live, or dead and then reclaimed. Which of them
-// it is, is decided by value, before anything is stored.
+// One slot, as the floor and has_active_db_file_reader meet it: skipped, live, or dead and then reclaimed.
 use reader_slots::slots;
 use wal_types::DB_FILE_READER_FRAME;
 use wal_types::SharedOwnerRecord;
@@ -7,10 +6,10 @@ use wal_types::SharedWalOwnershipMode;
 use wal_types::UNUSED_READER_FRAME;
 ghost use mathlib.Core.Path.{_≡_};
 ghost use Prim.Native.Nat.{_/_, _<_, min};
-ghost use lib.ListN.{length};
+ghost use lib.ListN.{length, getD};
 ghost use Rattle.reader_slots.specs.Inner.{emptied-if, SlotsBecome};
-ghost use Rattle.reader_probe.specs.Live.{dead, lower-floor};
-ghost use Rattle.reader_probe.specs.Inner.{skipped-cell, counted-cell, state-of, state-by, is-dead, floor-with, is-db-file};
+ghost use Rattle.reader_probe.specs.Live.{dead};
+ghost use Rattle.reader_probe.specs.Inner.{skipped-cell, live-by, live-frame, floor-with, is-db-file};
 
 // The floor: the least mark above 0 that is still held, or none.
 pub enum Floor {
@@ -18,11 +17,10 @@ pub enum Floor {
     NoMark,
 }
 
-// A slot as the floor meets it: without a reader, live with its mark, or dead, its holder gone.
-pub enum SlotState {
-    Skipped,
-    Live(u64),
-    Dead,
+// A live slot's mark, or none.
+pub enum LiveFrame {
+    Frame(u64),
+    NotLive,
 }
 
 // A slot without a reader: frame UNUSED, or in ProcessScopedFcntl mode no owner.
@@ -35,39 +33,7 @@ pub fn is_skipped(mode: SharedWalOwnershipMode, frame: u64, owner: SharedOwnerRe
     slots::is_ownerless(mode, owner)
 }
 
-// What a slot is, by its cells and its card. In ProcessScopedFcntl mode an error of the card counts as live.
-pub fn slot_state(
-    mode: SharedWalOwnershipMode,
-    frame: u64,
-    owner: SharedOwnerRecord,
-    local_owner: SharedOwnerRecord,
-    card: u8,
-) -> SlotState
-    ensures { λ r. ⌜ r ≡ state-of (skipped-cell mode frame (owner .0)) (counted-cell («local_owner» .0) card) frame ⌝ }
-{
-    if is_skipped(mode, frame, owner) {
-        return SlotState::Skipped;
-    }
-    if local_owner.0 != 0 {
-        return SlotState::Live(frame);
-    }
-    if card != 1 {
-        return SlotState::Live(frame);
-    }
-    SlotState::Dead
-}
-
-fn is_dead(state: SlotState) -> bool
-    ensures { λ r. ⌜ r ≡ is-dead state ⌝ }
-{
-    match state {
-        SlotState::Skipped => false,
-        SlotState::Live(frame) => false,
-        SlotState::Dead => true,
-    }
-}
-
-// What slot i is. It is decided first; a dead slot is then reclaimed.
+// One slot's mark if the slot is live. A dead slot is reclaimed.
 pub fn live_reader_frame(
     mode: SharedWalOwnershipMode,
     bitmap: &mut [u64],
@@ -76,22 +42,22 @@ pub fn live_reader_frame(
     local_readers: &[u64],
     card: &[u8],
     slot: usize,
-) -> SlotState
+) -> LiveFrame
     requires { ⌜ (slot / 64 < length (now bitmap)) × ((slot < length (now «reader_frames»)) × ((slot < length (now «reader_owners»)) × ((slot < length (now «local_readers»)) × (slot < length (now card))))) ⌝ }
-    ensures { λ r. ⌜ (r ≡ state-by mode (now (card .entry)) (now («reader_frames» .entry)) (now («reader_owners» .entry)) (now («local_readers» .entry)) slot) × SlotsBecome (λ m p. emptied-if mode (dead mode (now (card .entry)) p m slot) slot m) (now (bitmap .entry)) (now («reader_frames» .entry)) (now («reader_owners» .entry)) (now («local_readers» .entry)) (now (bitmap .exit)) (now («reader_frames» .exit)) (now («reader_owners» .exit)) ⌝ }
+    ensures { λ r. ⌜ (r ≡ live-frame (live-by mode (now (card .entry)) (now («reader_frames» .entry)) (now («reader_owners» .entry)) (now («local_readers» .entry)) slot) (getD (now («reader_frames» .entry)) slot 0)) × SlotsBecome (λ m p. emptied-if mode (dead mode (now (card .entry)) p m slot) slot m) (now (bitmap .entry)) (now («reader_frames» .entry)) (now («reader_owners» .entry)) (now («local_readers» .entry)) (now (bitmap .exit)) (now («reader_frames» .exit)) (now («reader_owners» .exit)) ⌝ }
 {
-    let state = slot_state(
-        mode,
-        reader_frames[slot],
-        SharedOwnerRecord(reader_owners[slot]),
-        SharedOwnerRecord(local_readers[slot]),
-        card[slot],
-    );
-    if !is_dead(state) {
-        return state;
+    let frame = reader_frames[slot];
+    if is_skipped(mode, frame, SharedOwnerRecord(reader_owners[slot])) {
+        return LiveFrame::NotLive;
+    }
+    if local_readers[slot] != 0 {
+        return LiveFrame::Frame(frame);
+    }
+    if card[slot] != 1 {
+        return LiveFrame::Frame(frame);
     }
     slots::empty_slot(mode, bitmap, reader_frames, reader_owners, slot);
-    state
+    LiveFrame::NotLive
 }
 
 fn smaller(a: u64, b: u64) -> u64
@@ -100,10 +66,13 @@ fn smaller(a: u64, b: u64) -> u64
     if a < b { a } else { b }
 }
 
-// The lesser of the floor so far and a mark. Mark 0 is a database file reader and never the floor.
-fn with_mark(floor: Floor, frame: u64) -> Floor
-    ensures { λ r. ⌜ r ≡ lower-floor floor frame ⌝ }
+// The lesser of the floor so far and a live slot's mark. Mark 0 is a database file reader and never the floor.
+pub fn lower_floor(floor: Floor, live: LiveFrame) -> Floor
+    ensures { λ r. ⌜ r ≡ floor-with floor live ⌝ }
 {
+    let LiveFrame::Frame(frame) = live else {
+        return floor;
+    };
     if frame == DB_FILE_READER_FRAME {
         return floor;
     }
@@ -113,24 +82,11 @@ fn with_mark(floor: Floor, frame: u64) -> Floor
     }
 }
 
-// The floor so far with a slot's mark, if the slot is live.
-pub fn lower_floor(floor: Floor, state: SlotState) -> Floor
-    ensures { λ r. ⌜ r ≡ floor-with floor state ⌝ }
+pub fn is_db_file_frame(live: LiveFrame) -> bool
+    ensures { λ r. ⌜ r ≡ is-db-file live ⌝ }
 {
-    match state {
-        SlotState::Skipped => floor,
-        SlotState::Live(frame) => with_mark(floor, frame),
-        SlotState::Dead => floor,
-    }
-}
-
-// A live slot of a reader that reads only the database file.
-pub fn is_db_file_reader(state: SlotState) -> bool
-    ensures { λ r. ⌜ r ≡ is-db-file state ⌝ }
-{
-    match state {
-        SlotState::Skipped => false,
-        SlotState::Live(frame) => frame == DB_FILE_READER_FRAME,
-        SlotState::Dead => false,
+    match live {
+        LiveFrame::Frame(frame) => frame == DB_FILE_READER_FRAME,
+        LiveFrame::NotLive => false,
     }
 }

@@ -1,6 +1,7 @@
 // Probes that failed (refusal 15), looked for before anything is reclaimed, with the card's own refusal 14.
 use crate::live;
 use reader_slots::slots;
+use wal_types::DB_FILE_READER_FRAME;
 use wal_types::SharedOwnerRecord;
 use wal_types::SharedWalOwnershipMode;
 use wal_types::refusal;
@@ -69,10 +70,19 @@ fn is_db_file_slot(
 ) -> bool
     ensures { λ r. ⌜ r ≡ db-file-cell mode frame (owner .0) («local_owner» .0) card ⌝ }
 {
+    if live::is_skipped(mode, frame, owner) {
+        return false;
+    }
     if is_failed(mode, frame, owner, local_owner, card) {
         return false;
     }
-    live::is_db_file_reader(live::slot_state(mode, frame, owner, local_owner, card))
+    if frame != DB_FILE_READER_FRAME {
+        return false;
+    }
+    if local_owner.0 != 0 {
+        return true;
+    }
+    card != 1
 }
 
 // How many slots has_active_db_file_reader looks at: those before the first live one of mark 0.

@@ -20,8 +20,8 @@ loop-holds c = (omega arith, ((omega arith, (omega arith, omega arith)), db-file
 live-reader-frame-requires : tie.Need-live-reader-frame-requires Inv-loop μ-loop
 live-reader-frame-requires c κs = search needs
 
-is-db-file-reader-requires : tie.Need-is-db-file-reader-requires Inv-loop μ-loop
-is-db-file-reader-requires c κs = search needs
+is-db-file-frame-requires : tie.Need-is-db-file-frame-requires Inv-loop μ-loop
+is-db-file-frame-requires c κs = search needs
 
 same-length : tie.Need-same-length Inv-loop μ-loop
 same-length c = omega arith
@@ -33,7 +33,7 @@ same-length-3 : tie.Need-same-length-3 Inv-loop μ-loop
 same-length-3 c = omega arith
 
 returns : tie.Need-returns Inv-loop μ-loop
-returns c = db-file-found _ _ _ _ _ _ _ _ _ _ _ (c .before .before .before .before .before .before .before .before .before .before .before .before .before .loop .inv .1 .1) (c .before .before .before .before .before .before .before .before .before .before .before .before .loop-test .taken) (omega arith) _ _ _ _ (c .before .before .before .before .before .before .before .before .live-reader-frame .ensures) (sym (c .before .is-db-file-reader .ensures) ∙ c .if1 .taken)
+returns c = db-file-found _ _ _ _ _ _ _ _ _ _ _ (c .before .before .before .before .before .before .before .before .before .before .before .before .before .loop .inv .1 .1) (c .before .before .before .before .before .before .before .before .before .before .before .before .loop-test .taken) (omega arith) _ _ _ _ (c .before .before .before .before .before .before .before .before .live-reader-frame .ensures) (sym (c .before .is-db-file-frame .ensures) ∙ c .if1 .taken)
 
 add-slot : tie.Need-add-slot Inv-loop μ-loop
 add-slot c = omega arith
@@ -42,7 +42,7 @@ loop-less : tie.Need-loop-less Inv-loop μ-loop
 loop-less c = omega arith
 
 loop-again : tie.Need-loop-again Inv-loop μ-loop
-loop-again c = (omega arith, ((omega arith, (omega arith, omega arith)), db-file-turn _ _ _ _ _ _ _ _ _ _ _ (c .before .before .before .before .before .before .before .before .before .before .before .before .before .loop .inv .1 .1) (c .before .before .before .before .before .before .before .before .before .before .before .before .loop-test .taken) (omega arith) _ _ _ _ (c .before .before .before .before .before .before .before .before .live-reader-frame .ensures) (sym (c .before .is-db-file-reader .ensures) ∙ c .if1 .left)))
+loop-again c = (omega arith, ((omega arith, (omega arith, omega arith)), db-file-turn _ _ _ _ _ _ _ _ _ _ _ (c .before .before .before .before .before .before .before .before .before .before .before .before .before .loop .inv .1 .1) (c .before .before .before .before .before .before .before .before .before .before .before .before .loop-test .taken) (omega arith) _ _ _ _ (c .before .before .before .before .before .before .before .before .live-reader-frame .ensures) (sym (c .before .is-db-file-frame .ensures) ∙ c .if1 .left)))
 
 same-length-4 : tie.Need-same-length-4 Inv-loop μ-loop
 same-length-4 c = omega arith
@@ -64,7 +64,7 @@ finds-db-file-reader-spec =
     μ-loop
     loop-holds
     live-reader-frame-requires
-    is-db-file-reader-requires
+    is-db-file-frame-requires
     same-length
     same-length-2
     same-length-3
