@@ -1,7 +1,6 @@
--- The steps of the shared calls: what they store in the registry, and their replies. No contract of a call cites them. Assumes
+-- The steps of the shared calls: what they do to the registry, and their replies. No contract of a call cites them. Assumes
 -- nothing.
 use Prim.Native.Nat.{ℕ}
-use Rattle.wal_types.specs.declared.SharedReadMark.{SharedReadMark}
 use Rattle.reader_moves.specs.Update.{release-answer}
 use Rattle.reader_shared.specs.declared.shared.SharePlan.{SharePlan}
 use Rattle.reader_shared.specs.declared.shared.UnsharePlan.{UnsharePlan}
@@ -13,13 +12,13 @@ use Rattle.c_reader_replies.specs.ReaderReply.{no-slot, reader-reply}
 
 -- a plan with its answer in numbers, and a call by an unknown lock mode, which is refused with 1
 abbrev pub shares-step : SharePlan → ShareStep
-shares-step plan = record { place = plan .place; item = plan .item; reply = reader-reply (share-answer (plan .answer)) }
+shares-step plan = record { retained = plan .retained; published = plan .published; slot = plan .slot; reply = reader-reply (share-answer (plan .answer)) }
 
-abbrev pub shares-unknown : ℕ → SharedReadMark → ShareStep
-shares-unknown records item = record { place = records; item = item; reply = no-slot 1 }
+abbrev pub shares-unknown : ℕ → ShareStep
+shares-unknown records = record { retained = records; published = records; slot = 0; reply = no-slot 1 }
 
 abbrev pub unshares-step : UnsharePlan → UnshareStep
-unshares-step plan = record { place = plan .place; item = plan .item; refusal = refusal-number (release-answer (plan .answer)) }
+unshares-step plan = record { released = plan .released; refusal = refusal-number (release-answer (plan .answer)) }
 
-abbrev pub unshares-unknown : ℕ → SharedReadMark → UnshareStep
-unshares-unknown records item = record { place = records; item = item; refusal = 1 }
+abbrev pub unshares-unknown : ℕ → UnshareStep
+unshares-unknown records = record { released = records; refusal = 1 }

@@ -10,7 +10,6 @@ use reader_shared::shared::Share;
 use reader_shared::shared::SharePlan;
 use reader_shared::shared::UnsharePlan;
 use wal_types::SharedOwnerRecord;
-use wal_types::SharedReadMark;
 use wal_types::SharedWalOwnershipMode;
 use wal_types::refusal;
 ghost use mathlib.Core.Path.{_≡_};
@@ -58,17 +57,18 @@ pub struct LimitReply {
     pub limit: u64,
 }
 
-// What a shared registration stores in the registry, a record in its place, past the end for none; and its reply.
+// What a shared registration does to the registry, as in its plan: the places of the record that it retains and of the one
+// that it publishes for the slot, each past the end for none. And its reply.
 pub struct ShareStep {
-    pub place: usize,
-    pub item: SharedReadMark,
+    pub retained: usize,
+    pub published: usize,
+    pub slot: u32,
     pub reply: ReaderReply,
 }
 
-// The same of a shared release. refusal is 0 or the number of the refusal.
+// The same of a shared release: the place of the record that it releases. refusal is 0 or the number of the refusal.
 pub struct UnshareStep {
-    pub place: usize,
-    pub item: SharedReadMark,
+    pub released: usize,
     pub refusal: u32,
 }
 
@@ -163,25 +163,25 @@ pub fn release_told(answer: Release) -> u32
 pub fn share_step(plan: SharePlan) -> ShareStep
     ensures { λ r. ⌜ r ≡ shares-step plan ⌝ }
 {
-    let place = plan.place;
-    let item = plan.item;
     let answer = plan.answer;
     let reply = share_told(answer);
     ShareStep {
-        place: place,
-        item: item,
+        retained: plan.retained,
+        published: plan.published,
+        slot: plan.slot,
         reply: reply,
     }
 }
 
-// A shared registration by an unknown lock mode stores nothing. item is any record.
-pub fn share_unknown(records: usize, item: SharedReadMark) -> ShareStep
-    ensures { λ r. ⌜ r ≡ shares-unknown records item ⌝ }
+// A shared registration by an unknown lock mode changes no record.
+pub fn share_unknown(records: usize) -> ShareStep
+    ensures { λ r. ⌜ r ≡ shares-unknown records ⌝ }
 {
     let reply = without_slot(refusal::SETTINGS);
     ShareStep {
-        place: records,
-        item: item,
+        retained: records,
+        published: records,
+        slot: 0,
         reply: reply,
     }
 }
@@ -190,23 +190,19 @@ pub fn share_unknown(records: usize, item: SharedReadMark) -> ShareStep
 pub fn unshare_step(plan: UnsharePlan) -> UnshareStep
     ensures { λ r. ⌜ r ≡ unshares-step plan ⌝ }
 {
-    let place = plan.place;
-    let item = plan.item;
     let answer = plan.answer;
     let told = release_told(answer);
     UnshareStep {
-        place: place,
-        item: item,
+        released: plan.released,
         refusal: told,
     }
 }
 
-pub fn unshare_unknown(records: usize, item: SharedReadMark) -> UnshareStep
-    ensures { λ r. ⌜ r ≡ unshares-unknown records item ⌝ }
+pub fn unshare_unknown(records: usize) -> UnshareStep
+    ensures { λ r. ⌜ r ≡ unshares-unknown records ⌝ }
 {
     UnshareStep {
-        place: records,
-        item: item,
+        released: records,
         refusal: refusal::SETTINGS,
     }
 }

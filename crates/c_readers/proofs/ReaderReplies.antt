@@ -1,14 +1,15 @@
 -- The reply of a reader call tells what the call's contract says. Assumes nothing.
-use mathlib.Core.Path.{_≡_, refl, sym, _∙_}
+use mathlib.Core.Path.{_≡_, refl, sym, ap, _∙_}
 use mathlib.Core.Bool.{Bool}
 use mathlib.Core.List.{List}
 use Prim.Native.Nat.{ℕ, min}
 use native.Mathlib.Omega.{arith}
-use lib.ListN.{length, set}
+use lib.ListN.{length, getD}
 use lib.Seq.{set-out}
+use Rattle.wal_types.specs.declared.SharedOwnerRecord.{SharedOwnerRecord}
 use Rattle.wal_types.specs.declared.SharedReadMark.{SharedReadMark}
 use Rattle.wal_types.specs.declared.SharedWalOwnershipMode.{SharedWalOwnershipMode}
-use Rattle.wal_types.specs.Memory.{Memory, Process}
+use Rattle.wal_types.specs.Memory.{Memory, Process, no-mark}
 use Rattle.wal_types.specs.Call.{Call, Answer, Done, refused, refusal, after, done}
 use Rattle.reader_slots.specs.Slots.{in-registry, ReaderCall}
 use Rattle.reader_register.specs.Register.{register-reader}
@@ -16,6 +17,8 @@ use Rattle.reader_moves.specs.Update.{release-answer, MoveCall, ReleaseCall}
 use Rattle.reader_floor.specs.Floor.{min-active-reader-frame, has-active-db-file-reader}
 use Rattle.reader_limit.specs.Limit.{copy-back-limit, LimitCall}
 use Rattle.reader_marks.specs.declared.Seen.{Seen}
+use Rattle.reader_marks.specs.Registry.{one-less}
+use Rattle.reader_marks.specs.InnerChange.{one-more-below, first-held, retained, published, released}
 use Rattle.reader_marks.specs.InnerScan.{seen-of}
 use Rattle.reader_shared.specs.declared.shared.SharePlan.{SharePlan}
 use Rattle.reader_shared.specs.declared.shared.UnsharePlan.{UnsharePlan}
@@ -81,9 +84,9 @@ module _ {R : Type 0} (reply-of : Answer → R) (mode : ℕ) (call : SharedWalOw
       unfolding ReleaseStep
       release-step slot shared b f o l b′ f′ o′ l′ c g s q z p = told-by reply-of r a _ _ _ told (rw (sym read ∙ known) (c z (registry-in p l g) (sym s) (sym q)))
 
-      pub plan-step : (mark : ℕ) (seen : Seen) (b f o l b′ f′ o′ l′ : List ℕ) (place : ℕ) (item : SharedReadMark) → PlanCall n mark seen records (call k) b f o l a b′ f′ o′ l′ (λ g. set g place item) → PlanStep reply-of n mark seen records (with-mode (mode-given mode) call) b f o l r b′ f′ o′ l′ place item
+      pub plan-step : (mark : ℕ) (seen : Seen) (b f o l b′ f′ o′ l′ : List ℕ) (change : List SharedReadMark → List SharedReadMark) → PlanCall n mark seen records (call k) b f o l a b′ f′ o′ l′ change → PlanStep reply-of n mark seen records (with-mode (mode-given mode) call) b f o l r b′ f′ o′ l′ change
       unfolding PlanCarried PlanStep
-      plan-step mark seen b f o l b′ f′ o′ l′ place item c g s q z p = told-by reply-of r a _ _ _ told (rw (sym read ∙ known) (c g s q z p))
+      plan-step mark seen b f o l b′ f′ o′ l′ change c g s q z p = told-by reply-of r a _ _ _ told (rw (sym read ∙ known) (c g s q z p))
 
     -- an unknown mode: refused with 1, and nothing is stored
     module _ (unknown : given ≡ Unknown) (r : R) (told : r ≡ reply-of (refused 1)) where
@@ -91,23 +94,41 @@ module _ {R : Type 0} (reply-of : Answer → R) (mode : ℕ) (call : SharedWalOw
       unfolding ReleaseStep
       release-unknown slot shared b f o l g s q z p = told-by reply-of r (refused 1) _ _ _ told (rw (sym read ∙ unknown))
 
-      pub plan-unknown : (mark : ℕ) (seen : Seen) (b f o l : List ℕ) (item : SharedReadMark) → PlanStep reply-of n mark seen records (with-mode (mode-given mode) call) b f o l r b f o l records item
+      pub plan-unknown : (mark : ℕ) (seen : Seen) (b f o l : List ℕ) (change : List SharedReadMark → List SharedReadMark) → ((g : List SharedReadMark) → records ≡ length g → change g ≡ g) → PlanStep reply-of n mark seen records (with-mode (mode-given mode) call) b f o l r b f o l change
       unfolding PlanStep
-      plan-unknown mark seen b f o l item g s q z p = told-by reply-of r (refused 1) _ _ _ told (rw (sym read ∙ unknown, set-out g records item (omega arith)))
+      plan-unknown mark seen b f o l change same g s q z p = told-by reply-of r (refused 1) _ _ _ told (rw (sym read ∙ unknown, same g q))
+
+-- past the end no record is retained, published or released
+none-shared : (records mark slot : ℕ) (owner : SharedOwnerRecord) (g : List SharedReadMark) → records ≡ length g → published records mark slot owner (retained records g) ≡ g
+none-shared records mark slot owner g q =
+    ap (published records mark slot owner) (set-out g records (one-more-below (getD g records no-mark)) (omega arith))
+    ∙ set-out g records (first-held mark slot owner) (omega arith)
+
+none-released : (records : ℕ) (g : List SharedReadMark) → records ≡ length g → released records g ≡ g
+none-released records g q = set-out g records (one-less (getD g records no-mark)) (omega arith)
 
 -- a shared call's step, by its plan
 module _ (mode : ℕ) (given : Mode) (read : given ≡ mode-given mode) (call : SharedWalOwnershipMode → Call) (n records mark : ℕ) (seen : Seen) (b f o l : List ℕ) where
-  pub share-made : (k : SharedWalOwnershipMode) → given ≡ Given k → (b′ f′ o′ l′ : List ℕ) (plan : SharePlan) → PlanCall n mark seen records (call k) b f o l (share-answer (plan .answer)) b′ f′ o′ l′ (λ g. set g (plan .place) (plan .item)) → (step : ShareStep) → step ≡ shares-step plan → PlanStep reader-reply n mark seen records (with-mode (mode-given mode) call) b f o l (step .reply) b′ f′ o′ l′ (step .place) (step .item)
-  share-made k known b′ f′ o′ l′ plan c step made = rw made (plan-step reader-reply mode call n records given read k known _ _ refl mark seen b f o l b′ f′ o′ l′ (plan .place) (plan .item) c)
+  -- what a registration's step promises
+  abbrev ShareMade : SharedOwnerRecord → List ℕ → List ℕ → List ℕ → List ℕ → ShareStep → Type 0
+  ShareMade owner b′ f′ o′ l′ step =
+      PlanStep reader-reply n mark seen records (with-mode (mode-given mode) call) b f o l (step .reply) b′ f′ o′ l′ (λ g. published (step .published) mark (step .slot) owner (retained (step .retained) g))
 
-  pub share-refused : given ≡ Unknown → (item : SharedReadMark) (step : ShareStep) → step ≡ shares-unknown records item → PlanStep reader-reply n mark seen records (with-mode (mode-given mode) call) b f o l (step .reply) b f o l (step .place) (step .item)
-  share-refused unknown item step made = rw made (plan-unknown reader-reply mode call n records given read unknown _ refl mark seen b f o l item)
+  abbrev UnshareMade : List ℕ → List ℕ → List ℕ → List ℕ → UnshareStep → Type 0
+  UnshareMade b′ f′ o′ l′ step =
+      PlanStep refusal-number n mark seen records (with-mode (mode-given mode) call) b f o l (step .refusal) b′ f′ o′ l′ (released (step .released))
 
-  pub unshare-made : (k : SharedWalOwnershipMode) → given ≡ Given k → (b′ f′ o′ l′ : List ℕ) (plan : UnsharePlan) → PlanCall n mark seen records (call k) b f o l (release-answer (plan .answer)) b′ f′ o′ l′ (λ g. set g (plan .place) (plan .item)) → (step : UnshareStep) → step ≡ unshares-step plan → PlanStep refusal-number n mark seen records (with-mode (mode-given mode) call) b f o l (step .refusal) b′ f′ o′ l′ (step .place) (step .item)
-  unshare-made k known b′ f′ o′ l′ plan c step made = rw made (plan-step refusal-number mode call n records given read k known _ _ refl mark seen b f o l b′ f′ o′ l′ (plan .place) (plan .item) c)
+  pub share-made : (owner : SharedOwnerRecord) (k : SharedWalOwnershipMode) → given ≡ Given k → (b′ f′ o′ l′ : List ℕ) (plan : SharePlan) → PlanCall n mark seen records (call k) b f o l (share-answer (plan .answer)) b′ f′ o′ l′ (λ g. published (plan .published) mark (plan .slot) owner (retained (plan .retained) g)) → (step : ShareStep) → step ≡ shares-step plan → ShareMade owner b′ f′ o′ l′ step
+  share-made owner k known b′ f′ o′ l′ plan c step made = rw made (plan-step reader-reply mode call n records given read k known _ _ refl mark seen b f o l b′ f′ o′ l′ _ c)
 
-  pub unshare-refused : given ≡ Unknown → (item : SharedReadMark) (step : UnshareStep) → step ≡ unshares-unknown records item → PlanStep refusal-number n mark seen records (with-mode (mode-given mode) call) b f o l (step .refusal) b f o l (step .place) (step .item)
-  unshare-refused unknown item step made = rw made (plan-unknown refusal-number mode call n records given read unknown _ refl mark seen b f o l item)
+  pub share-refused : (owner : SharedOwnerRecord) → given ≡ Unknown → (step : ShareStep) → step ≡ shares-unknown records → ShareMade owner b f o l step
+  share-refused owner unknown step made = rw made (plan-unknown reader-reply mode call n records given read unknown _ refl mark seen b f o l _ (none-shared records mark 0 owner))
+
+  pub unshare-made : (k : SharedWalOwnershipMode) → given ≡ Given k → (b′ f′ o′ l′ : List ℕ) (plan : UnsharePlan) → PlanCall n mark seen records (call k) b f o l (release-answer (plan .answer)) b′ f′ o′ l′ (released (plan .released)) → (step : UnshareStep) → step ≡ unshares-step plan → UnshareMade b′ f′ o′ l′ step
+  unshare-made k known b′ f′ o′ l′ plan c step made = rw made (plan-step refusal-number mode call n records given read k known _ _ refl mark seen b f o l b′ f′ o′ l′ _ c)
+
+  pub unshare-refused : given ≡ Unknown → (step : UnshareStep) → step ≡ unshares-unknown records → UnshareMade b f o l step
+  unshare-refused unknown step made = rw made (plan-unknown refusal-number mode call n records given read unknown _ refl mark seen b f o l _ (none-released records))
 
 pub move-step : {R : Type 0} (reply-of : Answer → R) (call : Call) (n slot : ℕ) (shared : Bool) (records : ℕ) (f o : List ℕ) (a : Answer) (r : R) → r ≡ reply-of a → (f′ : List ℕ) → MoveCall n slot shared records call f o a f′ → MoveStep reply-of n slot shared records call f o r f′
 unfolding MoveStep
@@ -122,6 +143,10 @@ pub release-taken : {R : Type 0} (reply-of : Answer → R) (call : Call) (n slot
 unfolding ReleaseStep
 release-taken reply-of call n slot shared b f o l r b′ f′ o′ l′ g step seen = step g seen refl
 
-pub plan-taken : {R : Type 0} (reply-of : Answer → R) (call : Call) (n mark : ℕ) (seen : Seen) (b f o l : List ℕ) (r : R) (b′ f′ o′ l′ : List ℕ) (place : ℕ) (item : SharedReadMark) (g g′ : List SharedReadMark) → PlanStep reply-of n mark seen (length g) call b f o l r b′ f′ o′ l′ place item → seen ≡ seen-of (min n (length g)) g mark → g′ ≡ set g place item → RegistryReplied reply-of call b f o l g r b′ f′ o′ l′ g′
+pub plan-taken : {R : Type 0} (reply-of : Answer → R) (call : Call) (n mark : ℕ) (seen : Seen) (b f o l : List ℕ) (r : R) (b′ f′ o′ l′ : List ℕ) (change : List SharedReadMark → List SharedReadMark) (g g′ : List SharedReadMark) → PlanStep reply-of n mark seen (length g) call b f o l r b′ f′ o′ l′ change → seen ≡ seen-of (min n (length g)) g mark → g′ ≡ change g → RegistryReplied reply-of call b f o l g r b′ f′ o′ l′ g′
 unfolding PlanStep
-plan-taken reply-of call n mark seen b f o l r b′ f′ o′ l′ place item g g′ step looked put = rw put (step g looked refl)
+plan-taken reply-of call n mark seen b f o l r b′ f′ o′ l′ change g g′ step looked made = rw made (step g looked refl)
+
+pub share-taken : {R : Type 0} (reply-of : Answer → R) (call : Call) (n mark : ℕ) (seen : Seen) (b f o l : List ℕ) (r : R) (b′ f′ o′ l′ : List ℕ) (at free slot : ℕ) (owner : SharedOwnerRecord) (g g₁ g₂ : List SharedReadMark) → PlanStep reply-of n mark seen (length g) call b f o l r b′ f′ o′ l′ (λ h. published free mark slot owner (retained at h)) → seen ≡ seen-of (min n (length g)) g mark → g₁ ≡ retained at g → g₂ ≡ published free mark slot owner g₁ → RegistryReplied reply-of call b f o l g r b′ f′ o′ l′ g₂
+share-taken reply-of call n mark seen b f o l r b′ f′ o′ l′ at free slot owner g g₁ g₂ step looked kept new =
+    plan-taken reply-of call n mark seen b f o l r b′ f′ o′ l′ (λ h. published free mark slot owner (retained at h)) g g₂ step looked (new ∙ ap (published free mark slot owner) kept)

@@ -4,7 +4,7 @@ use mathlib.Core.Path.{_≡_}
 use mathlib.Core.Bool.{Bool}
 use mathlib.Core.List.{List}
 use Prim.Native.Nat.{ℕ, min}
-use lib.ListN.{length, set}
+use lib.ListN.{length}
 use Rattle.wal_types.specs.declared.SharedReadMark.{SharedReadMark}
 use Rattle.wal_types.specs.Call.{Call, Answer}
 use Rattle.reader_slots.specs.Slots.{in-registry}
@@ -21,7 +21,7 @@ unfoldable pub ReleaseStep : {R : Type 0} → (Answer → R) → ℕ → ℕ →
 ReleaseStep reply-of n slot shared records call b f o l r b′ f′ o′ l′ =
     (g : List SharedReadMark) → shared ≡ in-registry n g slot → records ≡ length g → RegistryReplied reply-of call b f o l g r b′ f′ o′ l′ g
 
--- A call where the registry has so many records and a scan of the first n has seen this: it stores this record in this place.
-unfoldable pub PlanStep : {R : Type 0} → (Answer → R) → ℕ → ℕ → Seen → ℕ → Call → List ℕ → List ℕ → List ℕ → List ℕ → R → List ℕ → List ℕ → List ℕ → List ℕ → ℕ → SharedReadMark → Type 0
-PlanStep reply-of n mark seen records call b f o l r b′ f′ o′ l′ place item =
-    (g : List SharedReadMark) → seen ≡ seen-of (min n (length g)) g mark → records ≡ length g → RegistryReplied reply-of call b f o l g r b′ f′ o′ l′ (set g place item)
+-- A call where the registry has so many records and a scan of the first n has seen this: it makes this change to the registry.
+unfoldable pub PlanStep : {R : Type 0} → (Answer → R) → ℕ → ℕ → Seen → ℕ → Call → List ℕ → List ℕ → List ℕ → List ℕ → R → List ℕ → List ℕ → List ℕ → List ℕ → (List SharedReadMark → List SharedReadMark) → Type 0
+PlanStep reply-of n mark seen records call b f o l r b′ f′ o′ l′ change =
+    (g : List SharedReadMark) → seen ≡ seen-of (min n (length g)) g mark → records ≡ length g → RegistryReplied reply-of call b f o l g r b′ f′ o′ l′ (change g)

@@ -127,6 +127,7 @@ pub extern "C" fn wal_register_reader_for_snapshot(
 ) -> ReaderReply
     ensures { λ r. ⌜ RegistryReplied reader-reply (with-mode (mode-given mode) (λ given. register-reader-for-snapshot n given owner mark (now (card .entry)))) (now (bitmap .entry)) (now («reader_frames» .entry)) (now («reader_owners» .entry)) (now («local_readers» .entry)) (now (registry .entry)) r (now (bitmap .exit)) (now («reader_frames» .exit)) (now («reader_owners» .exit)) (now («local_readers» .exit)) (now (registry .exit)) ⌝ }
 {
+    let offered = SharedOwnerRecord(owner);
     let records = registry.len();
     let seen = reader_registry::look_through(registry, n, mark);
     let step = registry_steps::register_reader_for_snapshot(
@@ -139,10 +140,17 @@ pub extern "C" fn wal_register_reader_for_snapshot(
         records,
         seen,
         card,
-        owner,
+        offered,
         mark,
     );
-    reader_registry::put_record(registry, step.place, step.item);
+    reader_registry::retain_shared_snapshot_reader(registry, step.retained);
+    reader_registry::publish_shared_snapshot_reader(
+        registry,
+        step.published,
+        mark,
+        step.slot,
+        offered,
+    );
     step.reply
 }
 
@@ -206,7 +214,7 @@ pub extern "C" fn wal_unregister_reader_for_snapshot(
         slot,
         owner,
     );
-    reader_registry::put_record(registry, step.place, step.item);
+    reader_registry::release_shared_snapshot_reader(registry, step.released);
     step.refusal
 }
 

@@ -10,6 +10,7 @@ use reader_moves::update;
 use wal_types::SharedOwnerRecord;
 use wal_types::refusal;
 ghost use Rattle.reader_moves.specs.Update.{update-reader, unregister-reader};
+ghost use Rattle.reader_marks.specs.InnerChange.{retained, published, released};
 ghost use Rattle.reader_shared.specs.Shared.{register-reader-for-snapshot, unregister-reader-for-snapshot};
 ghost use Rattle.c_numbers.specs.Reply.{refusal-number};
 ghost use Rattle.c_numbers.specs.Mode.{mode-given, with-mode};
@@ -87,14 +88,13 @@ pub fn register_reader_for_snapshot(
     records: usize,
     seen: Seen,
     card: &[u8],
-    owner: u64,
+    owner: SharedOwnerRecord,
     mark: u64,
 ) -> ShareStep
-    ensures { λ r. ⌜ PlanStep reader-reply n mark seen records (with-mode (mode-given mode) (λ given. register-reader-for-snapshot n given owner mark (now (card .entry)))) (now (bitmap .entry)) (now («reader_frames» .entry)) (now («reader_owners» .entry)) (now («local_readers» .entry)) (r .reply) (now (bitmap .exit)) (now («reader_frames» .exit)) (now («reader_owners» .exit)) (now («local_readers» .exit)) (r .place) (r .item) ⌝ }
+    ensures { λ r. ⌜ PlanStep reader-reply n mark seen records (with-mode (mode-given mode) (λ given. register-reader-for-snapshot n given (owner .0) mark (now (card .entry)))) (now (bitmap .entry)) (now («reader_frames» .entry)) (now («reader_owners» .entry)) (now («local_readers» .entry)) (r .reply) (now (bitmap .exit)) (now («reader_frames» .exit)) (now («reader_owners» .exit)) (now («local_readers» .exit)) (λ registry. published (r .published) mark (r .slot) owner (retained (r .retained) registry)) ⌝ }
 {
     let Mode::Given(given) = c_numbers::mode_of(mode) else {
-        let any = seen.item;
-        return c_reader_replies::share_unknown(records, any);
+        return c_reader_replies::share_unknown(records);
     };
     let plan = reader_plans::share_plan(
         n,
@@ -106,7 +106,7 @@ pub fn register_reader_for_snapshot(
         records,
         seen,
         card,
-        SharedOwnerRecord(owner),
+        owner,
         mark,
     );
     c_reader_replies::share_step(plan)
@@ -126,11 +126,10 @@ pub fn unregister_reader_for_snapshot(
     slot: usize,
     owner: u64,
 ) -> UnshareStep
-    ensures { λ r. ⌜ PlanStep refusal-number n mark seen records (with-mode (mode-given mode) (λ given. unregister-reader-for-snapshot n given mark slot owner)) (now (bitmap .entry)) (now («reader_frames» .entry)) (now («reader_owners» .entry)) (now («local_readers» .entry)) (r .refusal) (now (bitmap .exit)) (now («reader_frames» .exit)) (now («reader_owners» .exit)) (now («local_readers» .exit)) (r .place) (r .item) ⌝ }
+    ensures { λ r. ⌜ PlanStep refusal-number n mark seen records (with-mode (mode-given mode) (λ given. unregister-reader-for-snapshot n given mark slot owner)) (now (bitmap .entry)) (now («reader_frames» .entry)) (now («reader_owners» .entry)) (now («local_readers» .entry)) (r .refusal) (now (bitmap .exit)) (now («reader_frames» .exit)) (now («reader_owners» .exit)) (now («local_readers» .exit)) (released (r .released)) ⌝ }
 {
     let Mode::Given(given) = c_numbers::mode_of(mode) else {
-        let any = seen.item;
-        return c_reader_replies::unshare_unknown(records, any);
+        return c_reader_replies::unshare_unknown(records);
     };
     let plan = reader_plans::unshare_plan(
         n,

@@ -183,8 +183,8 @@ pub fn seen_with(found: Found, empty: Found) -> Seen
     }
 }
 
-// A connection more shares the mark of a record. One with 65,535 holders or more stays as it is.
-pub fn retain_shared_snapshot_reader(m: SharedReadMark) -> SharedReadMark
+// A record with a holder more. One with 65,535 holders or more stays as it is.
+pub fn with_holder_more(m: SharedReadMark) -> SharedReadMark
     ensures { λ r. ⌜ r ≡ one-more-below m ⌝ }
 {
     let mut next = m;
@@ -194,8 +194,8 @@ pub fn retain_shared_snapshot_reader(m: SharedReadMark) -> SharedReadMark
     next
 }
 
-// A connection less shares the mark of a record. With 0 holders left it is empty.
-pub fn release_shared_snapshot_reader(m: SharedReadMark) -> SharedReadMark
+// A record with a holder less. With 0 holders left it is empty.
+pub fn with_holder_less(m: SharedReadMark) -> SharedReadMark
     ensures { λ r. ⌜ r ≡ one-less m ⌝ }
 {
     let mut next = m;
@@ -205,12 +205,8 @@ pub fn release_shared_snapshot_reader(m: SharedReadMark) -> SharedReadMark
     next
 }
 
-// A new mark for connections to share: a record with its first holder.
-pub fn publish_shared_snapshot_reader(
-    mark: u64,
-    slot: u32,
-    owner: SharedOwnerRecord,
-) -> SharedReadMark
+// A new record, with its first holder.
+pub fn first_held(mark: u64, slot: u32, owner: SharedOwnerRecord) -> SharedReadMark
     ensures { λ r. ⌜ r ≡ first-held mark slot owner ⌝ }
 {
     SharedReadMark {

@@ -5,7 +5,7 @@ use mathlib.Core.List.{List, [], _∷_}
 use Prim.Native.Nat.{ℕ, _/_, _<_, _≤_, min}
 use native.Mathlib.Omega.{arith}
 use lib.Dec.{eqb, leb, ltb}
-use lib.ListN.{length, getD, set}
+use lib.ListN.{length, getD, length-set}
 use lib.Seq.{set-out}
 use Rattle.wal_types.specs.declared.SharedReadMark.{SharedReadMark}
 use Rattle.wal_types.specs.declared.SharedWalOwnershipMode.{SharedWalOwnershipMode}
@@ -31,6 +31,7 @@ use Rattle.reader_shared.specs.declared.shared.Share.{Share}
 use Rattle.reader_shared.specs.declared.shared.SharePlan.{SharePlan}
 use Rattle.reader_shared.specs.declared.shared.Share.the-variants.{NoSlot as NotTaken, Refused as NotShared}
 use Rattle.reader_marks.specs.Registry.{record-of, empty-record}
+use Rattle.reader_marks.specs.InnerChange.{one-more-below, first-held, retained, published}
 use Rattle.reader_shared.specs.Shared.{no-record, no-room, share-tests, new-record, shares, register-reader-for-snapshot, share-answer, registry-in}
 use Rattle.reader_marks.specs.InnerScan.{item-at, seen-of}
 use Rattle.reader_shared.specs.Inner.{shares-nothing, shares-joined, shares-published, share-refusal, stale-by, no-record-answer, PlanCall, PlanCarried}
@@ -95,11 +96,20 @@ seen-parts n r mark seen e l = let q : min n (length r) ≡ n = omega arith in r
 module _ (n : ℕ) (mode : SharedWalOwnershipMode) (owner mark : ℕ) (bytes b f o l : List ℕ) (records : ℕ) (seen : Seen) (k : ℕ) (e : k ≡ share-refusal n (length b) (length f) (length o) (length l) records owner mark) where
   -- the call does what the plan says
   abbrev Means : List ℕ → List ℕ → List ℕ → List ℕ → SharePlan → Type 0
-  Means b′ f′ o′ l′ plan = PlanCall n mark seen records (register-reader-for-snapshot n mode owner mark bytes) b f o l (share-answer (plan .answer)) b′ f′ o′ l′ (λ r. set r (plan .place) (plan .item))
+  Means b′ f′ o′ l′ plan = PlanCall n mark seen records (register-reader-for-snapshot n mode owner mark bytes) b f o l (share-answer (plan .answer)) b′ f′ o′ l′ (λ r. published (plan .published) mark (plan .slot) (record { 0 = owner }) (retained (plan .retained) r))
 
-  -- past the end nothing is stored
-  unchanged : (item : SharedReadMark) (r : List SharedReadMark) → records ≡ length r → set r records item ≡ r
-  unchanged item r q = set-out r records item (omega arith)
+  -- past the end nothing is retained, and nothing published
+  none-retained : (r : List SharedReadMark) → records ≡ length r → retained records r ≡ r
+  none-retained r q = set-out r records (one-more-below (getD r records no-mark)) (omega arith)
+
+  none-published : (slot : ℕ) (r : List SharedReadMark) → records ≡ length r → published records mark slot (record { 0 = owner }) r ≡ r
+  none-published slot r q = set-out r records (first-held mark slot (record { 0 = owner })) (omega arith)
+
+  unchanged : (slot : ℕ) (r : List SharedReadMark) → records ≡ length r → published records mark slot (record { 0 = owner }) (retained records r) ≡ r
+  unchanged slot r q = ap (published records mark slot (record { 0 = owner })) (none-retained r q) ∙ none-published slot r q
+
+  still-as-long : (i : ℕ) (r : List SharedReadMark) → records ≡ length r → records ≡ length (retained i r)
+  still-as-long i r q = q ∙ sym (length-set r i (one-more-below (getD r i no-mark)))
 
   -- a process and memory with these parts
   abbrev memory : Memory → Memory
@@ -119,15 +129,15 @@ module _ (n : ℕ) (mode : SharedWalOwnershipMode) (owner mark : ℕ) (bytes b f
   first-refused x z p r q =
       early-four (not (slots-in-limits n)) (shorter n (length b) (length f) (length o) (length l) || ltb (length r) n) (eqb owner 0) (eqb mark unused) (cond (full z p r) 13 (cond (bad-card n bytes) 14 0)) k (rw (← q) e) x
 
-  refused-as : (j : ℕ) (item : SharedReadMark) → ((z : Memory) (p : Process) (r : List SharedReadMark) → seen ≡ seen-of (min n (length r)) r mark → records ≡ length r → number z p r ≡ j) → (j ≡ 0 → ⊥) → Means b f o l (shares-nothing records item (NotShared j))
+  refused-as : (j : ℕ) → ((z : Memory) (p : Process) (r : List SharedReadMark) → seen ≡ seen-of (min n (length r)) r mark → records ≡ length r → number z p r ≡ j) → (j ≡ 0 → ⊥) → Means b f o l (shares-nothing records (NotShared j))
   unfolding PlanCarried register-reader-for-snapshot
-  refused-as j item h x r s q z p =
-      rw (unchanged item r q)
+  refused-as j h x r s q z p =
+      rw (unchanged 0 r q)
       (refuses (share-tests n mode owner mark bytes) (λ m p. shares n mode owner mark bytes (record-of n (p .registry) mark) m p) (memory z) (process p r) j (h z p r s q) x)
 
   -- refusals 1, 2, 9 and 10
-  pub share-refused : (item : SharedReadMark) → (k ≡ 0 → ⊥) → (plan : SharePlan) → plan ≡ shares-nothing records item (NotShared k) → Means b f o l plan
-  share-refused item x plan made = rw made (refused-as k item (λ z p r s q. first-refused x z p r q) x)
+  pub share-refused : (k ≡ 0 → ⊥) → (plan : SharePlan) → plan ≡ shares-nothing records (NotShared k) → Means b f o l plan
+  share-refused x plan made = rw made (refused-as k (λ z p r s q. first-refused x z p r q) x)
 
   module _ (fine : k ≡ 0) where
     pass : Passed n (length b) (length f) (length o) (length l) records owner mark
@@ -148,13 +158,14 @@ module _ (n : ℕ) (mode : SharedWalOwnershipMode) (owner mark : ℕ) (bytes b f
 
       joined : (t u : Bool) → leb most-holders (seen .item .holders) ≡ t → bad-card n bytes ≡ u → Means b f o l (shares-joined records at (seen .item) mark u)
       unfolding PlanCarried register-reader-for-snapshot shares-joined
-      joined true u x y = rw x (refused-as 13 (seen .item) (λ z p r s q. later z p r q ∙ rw (placed r s q .0, placed r s q .1, x)) (λ q. omega arith))
-      joined false true x y = rw x (refused-as 14 (seen .item) (λ z p r s q. later z p r q ∙ rw (placed r s q .0, placed r s q .1, x, y)) (λ q. omega arith))
+      joined true u x y = rw x (refused-as 13 (λ z p r s q. later z p r q ∙ rw (placed r s q .0, placed r s q .1, x)) (λ q. omega arith))
+      joined false true x y = rw x (refused-as 14 (λ z p r s q. later z p r q ∙ rw (placed r s q .0, placed r s q .1, x, y)) (λ q. omega arith))
       joined false false x y =
           rw x
           (λ r s q z p.
-          accepts (share-tests n mode owner mark bytes) (λ m p. shares n mode owner mark bytes (record-of n (p .registry) mark) m p) (memory z) (process p r) (later z p r q ∙ rw (placed r s q .0, placed r s q .1, x, y))
-          ∙ rw (placed r s q .0, placed r s q .1))
+          rw (none-published 0 (retained at r) (still-as-long at r q))
+          (accepts (share-tests n mode owner mark bytes) (λ m p. shares n mode owner mark bytes (record-of n (p .registry) mark) m p) (memory z) (process p r) (later z p r q ∙ rw (placed r s q .0, placed r s q .1, x, y))
+          ∙ rw (placed r s q .0, placed r s q .1, x)))
 
       pub share-joins : (bad : Bool) → bad ≡ bad-card n bytes → (plan : SharePlan) → plan ≡ shares-joined records at (seen .item) mark bad → Means b f o l plan
       share-joins bad x plan made = rw (made, x) (joined (leb most-holders (seen .item .holders)) (bad-card n bytes) refl refl)
@@ -164,8 +175,8 @@ module _ (n : ℕ) (mode : SharedWalOwnershipMode) (owner mark : ℕ) (bytes b f
       unplaced : (r : List SharedReadMark) → seen ≡ seen-of (min n (length r)) r mark → records ≡ length r → (record-of n r mark ≡ Nothing) × (empty-record n r ≡ seen .empty)
       unplaced r s q = let w = parts r s q in (w .0 ∙ new, w .1 .1 (w .0 ∙ new))
 
-      pub new-bad-card : (item : SharedReadMark) → bad-card n bytes ≡ true → (plan : SharePlan) → plan ≡ shares-nothing records item (NotShared 14) → Means b f o l plan
-      new-bad-card item x plan made = rw made (refused-as 14 item (λ z p r s q. later z p r q ∙ rw (unplaced r s q .0, x)) (λ q. omega arith))
+      pub new-bad-card : bad-card n bytes ≡ true → (plan : SharePlan) → plan ≡ shares-nothing records (NotShared 14) → Means b f o l plan
+      new-bad-card x plan made = rw made (refused-as 14 (λ z p r s q. later z p r q ∙ rw (unplaced r s q .0, x)) (λ q. omega arith))
 
       module _ (good : bad-card n bytes ≡ false) where
         abbrev chosen : Memory → Process → List SharedReadMark → Slot
@@ -208,10 +219,11 @@ module _ (n : ℕ) (mode : SharedWalOwnershipMode) (owner mark : ℕ) (bytes b f
           answered : (a : Answer) → register-answer owner mark x ≡ a → ReaderCall (register-reader n mode owner mark bytes) b f o l a b′ f′ o′ l′
           answered a y z p = rw (← y) (reads z p)
 
-          taken : (slot : ℕ) → x ≡ Taken slot → (free : ℕ) → seen .empty ≡ At free → (item : SharedReadMark) → Means b′ f′ o′ l′ (shares-published records free item (Taken slot) (record { 0 = owner }) mark)
+          taken : (slot : ℕ) → x ≡ Taken slot → (free : ℕ) → seen .empty ≡ At free → Means b′ f′ o′ l′ (shares-published records free (Taken slot) (record { 0 = owner }) mark)
           unfolding PlanCarried shares-published
-          taken slot y free ef item r s q z p =
+          taken slot y free ef r s q z p =
               let told = answered (slot-taken slot owner mark) (ap (register-answer owner mark) y) in
+              rw (none-retained r q)
               (by-slot b′ f′ o′ l′ (slot-taken slot owner mark) told z p r s q (SlotAt slot) (slot-told owner mark (chosen z p r) slot (same-answer b′ f′ o′ l′ (slot-taken slot owner mark) told z p r)) (At free) ef (rw good))
 
           -- the slot is one of the n
@@ -219,11 +231,11 @@ module _ (n : ℕ) (mode : SharedWalOwnershipMode) (owner mark : ℕ) (bytes b f
           taken-below slot y =
               register-took n mode owner mark bytes (memory blank-memory) (locals-in blank-process l) slot owner mark (ap (λ (d : Done). d .answer) (answered (slot-taken slot owner mark) (ap (register-answer owner mark) y) blank-memory blank-process)) .1 .1 .below
 
-          no-slot : x ≡ Turned → (free : ℕ) → seen .empty ≡ At free → (item : SharedReadMark) → Means b′ f′ o′ l′ (shares-published records free item Turned (record { 0 = owner }) mark)
+          no-slot : x ≡ Turned → (free : ℕ) → seen .empty ≡ At free → Means b′ f′ o′ l′ (shares-published records free Turned (record { 0 = owner }) mark)
           unfolding PlanCarried shares-published
-          no-slot y free ef item r s q z p =
+          no-slot y free ef r s q z p =
               let told = answered none (ap (register-answer owner mark) y) in
-              rw (unchanged item r q)
+              rw (unchanged 0 r q)
               (by-slot b′ f′ o′ l′ none told z p r s q NoSlot (none-told owner mark (chosen z p r) (same-answer b′ f′ o′ l′ none told z p r)) (At free) ef (rw good))
 
           -- it is no refusal
@@ -231,13 +243,13 @@ module _ (n : ℕ) (mode : SharedWalOwnershipMode) (owner mark : ℕ) (bytes b f
           not-denied j y =
               never-refused owner mark (chosen blank-memory blank-process []) j (same-answer b′ f′ o′ l′ (refused j) (answered (refused j) (ap (register-answer owner mark) y)) blank-memory blank-process [])
 
-          by-answer : (answer : Register) → x ≡ answer → (free : ℕ) → seen .empty ≡ At free → (item : SharedReadMark) → Means b′ f′ o′ l′ (shares-published records free item answer (record { 0 = owner }) mark)
-          by-answer (Taken slot) y free ef item = taken slot y free ef item
-          by-answer Turned y free ef item = no-slot y free ef item
-          by-answer (Denied j) y free ef item = absurd (not-denied j y)
+          by-answer : (answer : Register) → x ≡ answer → (free : ℕ) → seen .empty ≡ At free → Means b′ f′ o′ l′ (shares-published records free answer (record { 0 = owner }) mark)
+          by-answer (Taken slot) y free ef = taken slot y free ef
+          by-answer Turned y free ef = no-slot y free ef
+          by-answer (Denied j) y free ef = absurd (not-denied j y)
 
-          pub new-registered : (free : ℕ) → seen .empty ≡ At free → (item : SharedReadMark) → (plan : SharePlan) → plan ≡ shares-published records free item x (record { 0 = owner }) mark → Means b′ f′ o′ l′ plan
-          new-registered free ef item plan made = rw made (by-answer x refl free ef item)
+          pub new-registered : (free : ℕ) → seen .empty ≡ At free → (plan : SharePlan) → plan ≡ shares-published records free x (record { 0 = owner }) mark → Means b′ f′ o′ l′ plan
+          new-registered free ef plan made = rw made (by-answer x refl free ef)
 
         -- no record is empty
         module _ (no-empty : seen .empty ≡ Nothing) where
@@ -268,16 +280,16 @@ module _ (n : ℕ) (mode : SharedWalOwnershipMode) (owner mark : ℕ) (bytes b f
               let both : chosen z p r ≡ NoSlot = rw (x, y, x) in
               made z p r s q (rw (unplaced r s q .0, good, both)) ∙ rw (both, x, y)
 
-          by-tests : (t u : Bool) → found-slot (lowest-slot (available-by b l bytes) n 0) ≡ t → some-slot (stale-by mode bytes b o l) n 0 ≡ u → (item : SharedReadMark) → Means b f o l (shares-nothing records item (cond (t || u) (NotShared 13) NotTaken))
+          by-tests : (t u : Bool) → found-slot (lowest-slot (available-by b l bytes) n 0) ≡ t → some-slot (stale-by mode bytes b o l) n 0 ≡ u → Means b f o l (shares-nothing records (cond (t || u) (NotShared 13) NotTaken))
           unfolding PlanCarried
-          by-tests true u x y item = refused-as 13 item (λ z p r s q. number-13 z p r s q (first-found z p r)) (λ q. omega arith)
+          by-tests true u x y = refused-as 13 (λ z p r s q. number-13 z p r s q (first-found z p r)) (λ q. omega arith)
             where
               first-found : (z : Memory) (p : Process) (r : List SharedReadMark) → found-slot (chosen z p r) ≡ true
               first-found z p r = either-found (first-slot n bytes (memory z) (process p r)) (second-slot n mode bytes (memory z) (process p r)) x
-          by-tests false true x y item = refused-as 13 item (λ z p r s q. number-13 z p r s q (later-found (first-slot n bytes (memory z) (process p r)) (second-slot n mode bytes (memory z) (process p r)) (second-some z p r y))) (λ q. omega arith)
-          by-tests false false x y item =
-              λ r s q z p. rw (unchanged item r q) (nothing-done z p r s q (not-found (first-slot n bytes (memory z) (process p r)) x) (second-none z p r y))
+          by-tests false true x y = refused-as 13 (λ z p r s q. number-13 z p r s q (later-found (first-slot n bytes (memory z) (process p r)) (second-slot n mode bytes (memory z) (process p r)) (second-some z p r y))) (λ q. omega arith)
+          by-tests false false x y =
+              λ r s q z p. rw (unchanged 0 r q) (nothing-done z p r s q (not-found (first-slot n bytes (memory z) (process p r)) x) (second-none z p r y))
 
-          pub new-no-record : (answer : Share) → answer ≡ no-record-answer n mode bytes b o l → (item : SharedReadMark) → (plan : SharePlan) → plan ≡ shares-nothing records item answer → Means b f o l plan
+          pub new-no-record : (answer : Share) → answer ≡ no-record-answer n mode bytes b o l → (plan : SharePlan) → plan ≡ shares-nothing records answer → Means b f o l plan
           unfolding no-record-answer
-          new-no-record answer x item plan made = rw (made, x) (by-tests (found-slot (lowest-slot (available-by b l bytes) n 0)) (some-slot (stale-by mode bytes b o l) n 0) refl refl item)
+          new-no-record answer x plan made = rw (made, x) (by-tests (found-slot (lowest-slot (available-by b l bytes) n 0)) (some-slot (stale-by mode bytes b o l) n 0) refl refl)

@@ -21,7 +21,8 @@ use Rattle.reader_slots.proofs.Calls.{refuses, accepts, release-one-or-two, rel
 use Rattle.reader_marks.specs.declared.Record.the-variants.{At, Nothing}
 use Rattle.reader_marks.specs.declared.Seen.{Seen}
 use Rattle.reader_shared.specs.declared.shared.UnsharePlan.{UnsharePlan}
-use Rattle.reader_marks.specs.Registry.{record-of}
+use Rattle.reader_marks.specs.Registry.{record-of, one-less}
+use Rattle.reader_marks.specs.InnerChange.{released}
 use Rattle.reader_shared.specs.Shared.{registered, last-holder, unshare-tests, unshares, unregister-reader-for-snapshot, registry-in}
 use Rattle.reader_marks.specs.InnerScan.{item-at, seen-of}
 use Rattle.reader_shared.specs.Inner.{releases-nothing, releases-one, mark-refusal, last-refusal, PlanCall, PlanCarried}
@@ -54,11 +55,11 @@ later-two false false rest k e z = refl
 module _ (n : ℕ) (mode : SharedWalOwnershipMode) (mark slot owner : ℕ) (b f o l : List ℕ) (records : ℕ) (seen : Seen) (k : ℕ) (e : k ≡ slots-refusal n (length b) (length f) (length o) (length l)) where
   -- the call does what the plan says
   abbrev Means : List ℕ → List ℕ → List ℕ → List ℕ → UnsharePlan → Type 0
-  Means b′ f′ o′ l′ plan = PlanCall n mark seen records (unregister-reader-for-snapshot n mode mark slot owner) b f o l (release-answer (plan .answer)) b′ f′ o′ l′ (λ r. set r (plan .place) (plan .item))
+  Means b′ f′ o′ l′ plan = PlanCall n mark seen records (unregister-reader-for-snapshot n mode mark slot owner) b f o l (release-answer (plan .answer)) b′ f′ o′ l′ (released (plan .released))
 
   -- the plan of a refusal
   abbrev Refused : ℕ → UnsharePlan → Type 0
-  Refused j plan = plan ≡ releases-nothing records (seen .item) j
+  Refused j plan = plan ≡ releases-nothing records j
 
   abbrev memory : Memory → Memory
   memory z = slots-in z b f o
@@ -85,7 +86,7 @@ module _ (n : ℕ) (mode : SharedWalOwnershipMode) (mark slot owner : ℕ) (b f 
   refused-as : (j : ℕ) → ((z : Memory) (p : Process) (r : List SharedReadMark) → seen ≡ seen-of (min n (length r)) r mark → records ≡ length r → number z p r ≡ j) → (j ≡ 0 → ⊥) → (plan : UnsharePlan) → Refused j plan → Means b f o l plan
   unfolding PlanCarried unregister-reader-for-snapshot
   refused-as j h x plan made r s q z p =
-      rw (made, set-out r records (seen .item) (omega arith))
+      rw (made, set-out r records (one-less (getD r records no-mark)) (omega arith))
       (refuses (unshare-tests n mode mark slot owner) (λ m p. unshares mode slot (record-of n (p .registry) mark) m p) (memory z) (process p r) j (h z p r s q) x)
 
   pub unshare-early : (k ≡ 0 → ⊥) → (plan : UnsharePlan) → Refused k plan → Means b f o l plan
@@ -145,7 +146,7 @@ module _ (n : ℕ) (mode : SharedWalOwnershipMode) (mark slot owner : ℕ) (b f 
                 pub unshare-kept-refused : (j ≡ 0 → ⊥) → (plan : UnsharePlan) → Refused j plan → Means b f o l plan
                 unshare-kept-refused x = refused-as j kept-number x
 
-                pub unshare-kept : j ≡ 0 → (plan : UnsharePlan) → plan ≡ releases-one at (seen .item) → Means b f o l plan
+                pub unshare-kept : j ≡ 0 → (plan : UnsharePlan) → plan ≡ releases-one at → Means b f o l plan
                 unfolding PlanCarried unregister-reader-for-snapshot
                 unshare-kept x plan made r s q z p =
                     rw made
@@ -176,7 +177,7 @@ module _ (n : ℕ) (mode : SharedWalOwnershipMode) (mark slot owner : ℕ) (b f 
                   pub unshare-last-mark : (j ≡ 0 → ⊥) → (plan : UnsharePlan) → Refused j plan → Means b f o l plan
                   unshare-last-mark x = refused-as j passed-number x
 
-                  pub unshare-last : j ≡ 0 → (b′ f′ o′ l′ : List ℕ) → SlotsBecome (λ m p. apply (empty-slot mode slot m) m) b f o l b′ f′ o′ × (l′ ≡ set l slot 0) → (plan : UnsharePlan) → plan ≡ releases-one at (seen .item) → Means b′ f′ o′ l′ plan
+                  pub unshare-last : j ≡ 0 → (b′ f′ o′ l′ : List ℕ) → SlotsBecome (λ m p. apply (empty-slot mode slot m) m) b f o l b′ f′ o′ × (l′ ≡ set l slot 0) → (plan : UnsharePlan) → plan ≡ releases-one at → Means b′ f′ o′ l′ plan
                   unfolding PlanCarried unregister-reader-for-snapshot
                   unshare-last x b′ f′ o′ l′ w plan made r s q z p =
                       rw made

@@ -11,8 +11,8 @@ use reader_slots::slots;
 use wal_types::SharedOwnerRecord;
 use wal_types::SharedWalOwnershipMode;
 use wal_types::refusal;
-ghost use lib.ListN.{set};
 ghost use Rattle.reader_moves.specs.Update.{release-answer};
+ghost use Rattle.reader_marks.specs.InnerChange.{retained, published, released};
 ghost use Rattle.reader_shared.specs.Shared.{register-reader-for-snapshot, unregister-reader-for-snapshot, share-answer};
 ghost use Rattle.reader_shared.specs.Inner.{PlanCall};
 
@@ -32,7 +32,7 @@ pub fn share_plan(
     owner: SharedOwnerRecord,
     mark: u64,
 ) -> SharePlan
-    ensures { λ r. ⌜ PlanCall n mark seen records (register-reader-for-snapshot n mode (owner .0) mark (now (card .entry))) (now (bitmap .entry)) (now («reader_frames» .entry)) (now («reader_owners» .entry)) (now («local_readers» .entry)) (share-answer (r .answer)) (now (bitmap .exit)) (now («reader_frames» .exit)) (now («reader_owners» .exit)) (now («local_readers» .exit)) (λ registry. set registry (r .place) (r .item)) ⌝ }
+    ensures { λ r. ⌜ PlanCall n mark seen records (register-reader-for-snapshot n mode (owner .0) mark (now (card .entry))) (now (bitmap .entry)) (now («reader_frames» .entry)) (now («reader_owners» .entry)) (now («local_readers» .entry)) (share-answer (r .answer)) (now (bitmap .exit)) (now («reader_frames» .exit)) (now («reader_owners» .exit)) (now («local_readers» .exit)) (λ registry. published (r .published) mark (r .slot) owner (retained (r .retained) registry)) ⌝ }
 {
     let place = seen.place;
     let item = seen.item;
@@ -49,7 +49,7 @@ pub fn share_plan(
     );
     if refused != 0 {
         let answer = Share::Refused(refused);
-        return shared::share_nothing(records, item, answer);
+        return shared::share_nothing(records, answer);
     }
     let bad_card = slots::bad_card(n, card);
     if let Record::At(found) = place {
@@ -57,11 +57,11 @@ pub fn share_plan(
     }
     if bad_card {
         let answer = Share::Refused(refusal::CARD);
-        return shared::share_nothing(records, item, answer);
+        return shared::share_nothing(records, answer);
     }
     let Record::At(free) = empty else {
         let answer = shared::without_record(n, mode, bitmap, reader_owners, local_readers, card);
-        return shared::share_nothing(records, item, answer);
+        return shared::share_nothing(records, answer);
     };
     let registered = register::register_reader(
         n,
@@ -74,7 +74,7 @@ pub fn share_plan(
         owner,
         mark,
     );
-    shared::share_published(records, free, item, registered, owner, mark)
+    shared::share_published(records, free, registered, owner, mark)
 }
 
 // A shared release, but for what it does to the registry. As in share_plan, the contract holds for every registry that
@@ -92,7 +92,7 @@ pub fn unshare_plan(
     slot: usize,
     owner: SharedOwnerRecord,
 ) -> UnsharePlan
-    ensures { λ r. ⌜ PlanCall n mark seen records (unregister-reader-for-snapshot n mode mark slot (owner .0)) (now (bitmap .entry)) (now («reader_frames» .entry)) (now («reader_owners» .entry)) (now («local_readers» .entry)) (release-answer (r .answer)) (now (bitmap .exit)) (now («reader_frames» .exit)) (now («reader_owners» .exit)) (now («local_readers» .exit)) (λ registry. set registry (r .place) (r .item)) ⌝ }
+    ensures { λ r. ⌜ PlanCall n mark seen records (unregister-reader-for-snapshot n mode mark slot (owner .0)) (now (bitmap .entry)) (now («reader_frames» .entry)) (now («reader_owners» .entry)) (now («local_readers» .entry)) (release-answer (r .answer)) (now (bitmap .exit)) (now («reader_frames» .exit)) (now («reader_owners» .exit)) (now («local_readers» .exit)) (released (r .released)) ⌝ }
 {
     let place = seen.place;
     let item = seen.item;
@@ -104,32 +104,32 @@ pub fn unshare_plan(
         local_readers.len(),
     );
     if refused != 0 {
-        return shared::release_refused(records, item, refused);
+        return shared::release_refused(records, refused);
     }
     if records < n {
-        return shared::release_refused(records, item, refusal::SHORT_MEMORY);
+        return shared::release_refused(records, refusal::SHORT_MEMORY);
     }
     if n <= slot {
-        return shared::release_refused(records, item, refusal::SLOT_NUMBER);
+        return shared::release_refused(records, refusal::SLOT_NUMBER);
     }
     let Record::At(found) = place else {
         let absent = shared::mark_refusal(owner, mark, false);
-        return shared::release_refused(records, item, absent);
+        return shared::release_refused(records, absent);
     };
     if item.slot as usize != slot {
         let other = shared::mark_refusal(owner, mark, false);
-        return shared::release_refused(records, item, other);
+        return shared::release_refused(records, other);
     }
     if item.owner.0 != owner.0 {
         let other = shared::mark_refusal(owner, mark, false);
-        return shared::release_refused(records, item, other);
+        return shared::release_refused(records, other);
     }
     let by_mark = shared::mark_refusal(owner, mark, true);
     if shared::holders_left(item) {
         if by_mark != 0 {
-            return shared::release_refused(records, item, by_mark);
+            return shared::release_refused(records, by_mark);
         }
-        return shared::release_made(found, item);
+        return shared::release_made(found);
     }
     let by_slot = shared::last_refusal(
         mode,
@@ -138,10 +138,10 @@ pub fn unshare_plan(
         SharedOwnerRecord(local_readers[slot]),
     );
     if by_slot != 0 {
-        return shared::release_refused(records, item, by_slot);
+        return shared::release_refused(records, by_slot);
     }
     if by_mark != 0 {
-        return shared::release_refused(records, item, by_mark);
+        return shared::release_refused(records, by_mark);
     }
     update::release_slot(
         mode,
@@ -151,5 +151,5 @@ pub fn unshare_plan(
         local_readers,
         slot,
     );
-    shared::release_made(found, item)
+    shared::release_made(found)
 }

@@ -1,2 +1,3 @@
--- Laws of scans.
+-- Laws of scans; the walk of a function that changes one record.
 pub mod Scan
+mod Changes

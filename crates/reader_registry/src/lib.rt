@@ -1,13 +1,15 @@
-// The registry of shared marks, a lent slice of records: what a call looks for in it, and the one record that a call stores.
+// The registry of shared marks, a lent slice of records: what a call looks for in it, and the changes of one record.
 use reader_marks::Found;
 use reader_marks::Seen;
 use reader_marks::Wanted;
 use reader_slots::available;
+use wal_types::SharedOwnerRecord;
 use wal_types::SharedReadMark;
 ghost use mathlib.Core.Path.{_≡_};
 ghost use Prim.Native.Nat.{min};
-ghost use lib.ListN.{length, set};
+ghost use lib.ListN.{length};
 ghost use Rattle.reader_slots.specs.Slots.{in-registry};
+ghost use Rattle.reader_marks.specs.InnerChange.{retained, published, released};
 ghost use Rattle.reader_marks.specs.InnerScan.{picks, found-of, seen-of};
 
 // The first of the first n records, or of all if there are fewer, that is wanted. Four at a time are passed over where none is.
@@ -61,11 +63,35 @@ pub fn slot_is_shared(registry: &[SharedReadMark], n: usize, slot: usize) -> boo
     reader_marks::is_found(found.place)
 }
 
-// Stores a record in its place. Past the end nothing is written.
-pub fn put_record(registry: &mut [SharedReadMark], place: usize, item: SharedReadMark)
-    ensures { λ _. ⌜ now (registry .exit) ≡ set (now (registry .entry)) place item ⌝ }
+// A connection more shares the mark of a record. Past the end nothing is written.
+pub fn retain_shared_snapshot_reader(registry: &mut [SharedReadMark], at: usize)
+    ensures { λ _. ⌜ now (registry .exit) ≡ retained at (now (registry .entry)) ⌝ }
 {
-    if place < registry.len() {
-        registry[place] = item;
+    if at < registry.len() {
+        registry[at] = reader_marks::with_holder_more(registry[at]);
+    }
+}
+
+// A new mark for connections to share, in an empty record. Past the end nothing is written.
+pub fn publish_shared_snapshot_reader(
+    registry: &mut [SharedReadMark],
+    at: usize,
+    mark: u64,
+    slot: u32,
+    owner: SharedOwnerRecord,
+)
+    ensures { λ _. ⌜ now (registry .exit) ≡ published at mark slot owner (now (registry .entry)) ⌝ }
+{
+    if at < registry.len() {
+        registry[at] = reader_marks::first_held(mark, slot, owner);
+    }
+}
+
+// A connection less shares the mark of a record. Past the end nothing is written.
+pub fn release_shared_snapshot_reader(registry: &mut [SharedReadMark], at: usize)
+    ensures { λ _. ⌜ now (registry .exit) ≡ released at (now (registry .entry)) ⌝ }
+{
+    if at < registry.len() {
+        registry[at] = reader_marks::with_holder_less(registry[at]);
     }
 }

@@ -21,44 +21,42 @@ use Rattle.reader_marks.specs.InnerScan.{seen-of}
 use Rattle.reader_register.specs.declared.register.Register.{Register}
 use Rattle.reader_register.specs.declared.register.Register.the-variants.{Taken as RegisterTaken, NoSlot as RegisterNone, Refused as RegisterRefused}
 use Rattle.reader_moves.specs.declared.update.Release.the-variants.{Released, Refused as NotReleased}
-use Rattle.reader_marks.specs.Registry.{one-more, one-less}
-use Rattle.reader_marks.specs.InnerChange.{first-held}
 use Rattle.reader_shared.specs.declared.shared.Share.{Share}
 use Rattle.reader_shared.specs.declared.shared.Share.the-variants.{Taken, NoSlot as NotTaken, Refused as NotShared}
 use Rattle.reader_shared.specs.declared.shared.SharePlan.{SharePlan}
 use Rattle.reader_shared.specs.declared.shared.UnsharePlan.{UnsharePlan}
 use Rattle.reader_shared.specs.Shared.{SharedCarried}
 
--- the plan that stores nothing: its place is past the end
-abbrev pub shares-nothing : ℕ → SharedReadMark → Share → SharePlan
-shares-nothing records item answer = record { place = records; item = item; answer = answer }
+-- the plan that changes nothing: its places are past the end
+abbrev pub shares-nothing : ℕ → Share → SharePlan
+shares-nothing records answer = record { retained = records; published = records; slot = 0; answer = answer }
 
 -- the plan for a mark whose record is found
 unfoldable pub shares-joined : ℕ → ℕ → SharedReadMark → ℕ → Bool → SharePlan
 shares-joined records found item mark bad =
     cond (leb most-holders (item .holders))
-    (shares-nothing records item (NotShared 13))
+    (shares-nothing records (NotShared 13))
     (cond bad
-    (shares-nothing records item (NotShared 14))
-    (record { place = found; item = one-more item; answer = Taken (item .slot) (item .owner) mark }))
+    (shares-nothing records (NotShared 14))
+    (record { retained = found; published = records; slot = 0; answer = Taken (item .slot) (item .owner) mark }))
 
 -- the slot that register_reader has answered is a 32-bit number
 abbrev pub SlotFits : Register → Type 0
 SlotFits registered = (slot : ℕ) → registered ≡ RegisterTaken slot → slot < 4294967296
 
 -- the plan for a new mark, by what register_reader has answered
-unfoldable pub shares-published : ℕ → ℕ → SharedReadMark → Register → SharedOwnerRecord → ℕ → SharePlan
-shares-published records free item (RegisterTaken slot) owner mark =
-    record { place = free; item = first-held mark slot owner; answer = Taken slot owner mark }
-shares-published records free item RegisterNone owner mark = shares-nothing records item NotTaken
-shares-published records free item (RegisterRefused k) owner mark = shares-nothing records item NotTaken
+unfoldable pub shares-published : ℕ → ℕ → Register → SharedOwnerRecord → ℕ → SharePlan
+shares-published records free (RegisterTaken slot) owner mark =
+    record { retained = records; published = free; slot = slot; answer = Taken slot owner mark }
+shares-published records free RegisterNone owner mark = shares-nothing records NotTaken
+shares-published records free (RegisterRefused k) owner mark = shares-nothing records NotTaken
 
 -- the plan of a release that is refused, and of one that is made
-abbrev pub releases-nothing : ℕ → SharedReadMark → ℕ → UnsharePlan
-releases-nothing records item number = record { place = records; item = item; answer = NotReleased number }
+abbrev pub releases-nothing : ℕ → ℕ → UnsharePlan
+releases-nothing records number = record { released = records; answer = NotReleased number }
 
-abbrev pub releases-one : ℕ → SharedReadMark → UnsharePlan
-releases-one found item = record { place = found; item = one-less item; answer = Released }
+abbrev pub releases-one : ℕ → UnsharePlan
+releases-one found = record { released = found; answer = Released }
 
 -- the number of refusal 1, 2, 9 or 10, 0 for none of them
 unfoldable pub share-refusal : ℕ → ℕ → ℕ → ℕ → ℕ → ℕ → ℕ → ℕ → ℕ

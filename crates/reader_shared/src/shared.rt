@@ -27,21 +27,23 @@ pub enum Share {
     Refused(u32),
 }
 
-// What a shared registration does to the registry: the record that it stores and its place, past the end if it stores
-// none. And its answer.
+// What a shared registration does to the registry: the place of the record that it retains, and of the one that it
+// publishes for the slot, each past the end if there is none. And its answer.
 pub struct SharePlan {
-    pub place: usize,
-    pub item: SharedReadMark,
+    pub retained: usize,
+    pub published: usize,
+    pub slot: u32,
     pub answer: Share,
 }
 
-// A registration that leaves the registry as it is. item is any record.
-pub fn share_nothing(records: usize, item: SharedReadMark, answer: Share) -> SharePlan
-    ensures { λ r. ⌜ r ≡ shares-nothing records item answer ⌝ }
+// A registration that leaves the registry as it is.
+pub fn share_nothing(records: usize, answer: Share) -> SharePlan
+    ensures { λ r. ⌜ r ≡ shares-nothing records answer ⌝ }
 {
     SharePlan {
-        place: records,
-        item: item,
+        retained: records,
+        published: records,
+        slot: 0,
         answer: answer,
     }
 }
@@ -58,18 +60,18 @@ pub fn share_joined(
 {
     if MOST_HOLDERS <= item.holders {
         let full = Share::Refused(refusal::REGISTRY_FULL);
-        return share_nothing(records, item, full);
+        return share_nothing(records, full);
     }
     if bad_card {
         let bad = Share::Refused(refusal::CARD);
-        return share_nothing(records, item, bad);
+        return share_nothing(records, bad);
     }
     let first = SharedOwnerRecord(item.owner.0);
-    let kept = reader_marks::retain_shared_snapshot_reader(item);
     let answer = Share::Taken(item.slot, first, mark);
     SharePlan {
-        place: found,
-        item: kept,
+        retained: found,
+        published: records,
+        slot: 0,
         answer: answer,
     }
 }
@@ -78,24 +80,23 @@ pub fn share_joined(
 pub fn share_published(
     records: usize,
     free: usize,
-    item: SharedReadMark,
     registered: Register,
     owner: SharedOwnerRecord,
     mark: u64,
 ) -> SharePlan
     requires { ⌜ SlotFits registered ⌝ }
-    ensures { λ r. ⌜ r ≡ shares-published records free item registered owner mark ⌝ }
+    ensures { λ r. ⌜ r ≡ shares-published records free registered owner mark ⌝ }
 {
     let Register::Taken(slot) = registered else {
         let none = Share::NoSlot;
-        return share_nothing(records, item, none);
+        return share_nothing(records, none);
     };
     let number = slot as u32;
-    let fresh = reader_marks::publish_shared_snapshot_reader(mark, number, owner);
     let answer = Share::Taken(number, owner, mark);
     SharePlan {
-        place: free,
-        item: fresh,
+        retained: records,
+        published: free,
+        slot: number,
         answer: answer,
     }
 }
@@ -202,35 +203,31 @@ pub fn without_record(
     Share::NoSlot
 }
 
-// What a shared release does to the registry: the record that it stores and its place, past the end if it stores none. And
+// What a shared release does to the registry: the place of the record that it releases, past the end if there is none. And
 // its answer.
 pub struct UnsharePlan {
-    pub place: usize,
-    pub item: SharedReadMark,
+    pub released: usize,
     pub answer: Release,
 }
 
-// A release that is refused. item is any record.
-pub fn release_refused(records: usize, item: SharedReadMark, number: u32) -> UnsharePlan
-    ensures { λ r. ⌜ r ≡ releases-nothing records item number ⌝ }
+// A release that is refused.
+pub fn release_refused(records: usize, number: u32) -> UnsharePlan
+    ensures { λ r. ⌜ r ≡ releases-nothing records number ⌝ }
 {
     let answer = Release::Refused(number);
     UnsharePlan {
-        place: records,
-        item: item,
+        released: records,
         answer: answer,
     }
 }
 
-// A release of the record item, in this place.
-pub fn release_made(place: usize, item: SharedReadMark) -> UnsharePlan
-    ensures { λ r. ⌜ r ≡ releases-one place item ⌝ }
+// A release of the record in this place.
+pub fn release_made(place: usize) -> UnsharePlan
+    ensures { λ r. ⌜ r ≡ releases-one place ⌝ }
 {
-    let left = reader_marks::release_shared_snapshot_reader(item);
     let answer = Release::Released;
     UnsharePlan {
-        place: place,
-        item: left,
+        released: place,
         answer: answer,
     }
 }

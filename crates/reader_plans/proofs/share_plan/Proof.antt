@@ -14,7 +14,7 @@ share-nothing-requires : tie.Need-share-nothing-requires
 share-nothing-requires c κs = search needs
 
 returns : tie.Need-returns
-returns c = share-refused _ _ _ _ _ _ _ _ _ _ (c .before .before .before .before .before .before .before .before .before .args .seen) _ (c .before .before .share-refusal .ensures) _ (c .before .if1 .taken) _ (c .share-nothing .ensures)
+returns c = share-refused _ _ _ _ _ _ _ _ _ _ (c .before .before .before .before .before .before .before .before .before .args .seen) _ (c .before .before .share-refusal .ensures) (c .before .if1 .taken) _ (c .share-nothing .ensures)
 
 bad-card-requires : tie.Need-bad-card-requires
 bad-card-requires c κs = search needs
@@ -35,7 +35,7 @@ share-nothing-requires-2 : tie.Need-share-nothing-requires-2
 share-nothing-requires-2 c κs = search needs
 
 returns-3 : tie.Need-returns-3
-returns-3 c = new-bad-card _ _ _ _ _ _ _ _ _ _ (c .before .before .before .before .before .before .before .before .before .before .before .before .before .args .seen) _ (c .before .before .before .before .before .before .share-refusal .ensures) (c .before .before .before .before .before .if1 .left) (c .before .before .enum-told .given .1) _ (sym (c .before .before .before .before .bad-card .ensures) ∙ c .before .if2 .taken) _ (c .share-nothing2 .ensures)
+returns-3 c = new-bad-card _ _ _ _ _ _ _ _ _ _ (c .before .before .before .before .before .before .before .before .before .before .before .before .before .args .seen) _ (c .before .before .before .before .before .before .share-refusal .ensures) (c .before .before .before .before .before .if1 .left) (c .before .before .enum-told .given .1) (sym (c .before .before .before .before .bad-card .ensures) ∙ c .before .if2 .taken) _ (c .share-nothing2 .ensures)
 
 enum-known-empty : tie.Need-enum-known-empty
 enum-known-empty c = search needs
@@ -59,7 +59,7 @@ same-length-3 : tie.Need-same-length-3
 same-length-3 c = search needs
 
 returns-4 : tie.Need-returns-4
-returns-4 c = new-no-record _ _ _ _ _ _ _ _ _ _ (c .before .before .before .before .before .before .before .before .before .before .before .before .before .before .before .before .before .before .before .args .seen) _ (c .before .before .before .before .before .before .before .before .before .before .before .before .share-refusal .ensures) (c .before .before .before .before .before .before .before .before .before .before .before .if1 .left) (c .before .before .before .before .before .before .before .before .enum-told .given .1) (sym (c .before .before .before .before .before .before .before .before .before .before .bad-card .ensures) ∙ c .before .before .before .before .before .before .before .if2 .left) (c .before .before .before .before .before .enum-told2 .given .1) _ (c .before .without-record .ensures) _ _ (c .share-nothing3 .ensures)
+returns-4 c = new-no-record _ _ _ _ _ _ _ _ _ _ (c .before .before .before .before .before .before .before .before .before .before .before .before .before .before .before .before .before .before .before .args .seen) _ (c .before .before .before .before .before .before .before .before .before .before .before .before .share-refusal .ensures) (c .before .before .before .before .before .before .before .before .before .before .before .if1 .left) (c .before .before .before .before .before .before .before .before .enum-told .given .1) (sym (c .before .before .before .before .before .before .before .before .before .before .bad-card .ensures) ∙ c .before .before .before .before .before .before .before .if2 .left) (c .before .before .before .before .before .enum-told2 .given .1) _ (c .before .without-record .ensures) _ (c .share-nothing3 .ensures)
 
 register-reader-requires : tie.Need-register-reader-requires
 register-reader-requires c κs = search needs
@@ -80,7 +80,7 @@ same-length-7 : tie.Need-same-length-7
 same-length-7 c = search needs
 
 returns-5 : tie.Need-returns-5
-returns-5 c = new-registered _ _ _ _ _ _ _ _ _ _ (c .before .before .before .before .before .before .before .before .before .before .before .before .before .before .before .before .before .before .before .before .before .before .before .before .before .before .before .before .before .args .seen) _ (c .before .before .before .before .before .before .before .before .before .before .before .before .before .before .before .before .before .before .before .before .before .before .share-refusal .ensures) (c .before .before .before .before .before .before .before .before .before .before .before .before .before .before .before .before .before .before .before .before .before .if1 .left) (c .before .before .before .before .before .before .before .before .before .before .before .before .before .before .before .before .before .before .enum-told .given .1) (sym (c .before .before .before .before .before .before .before .before .before .before .before .before .before .before .before .before .before .before .before .before .bad-card .ensures) ∙ c .before .before .before .before .before .before .before .before .before .before .before .before .before .before .before .before .before .if2 .left) _ _ _ _ (c .before .before .before .before .before .before .before .before .before .register-reader .result) (c .before .before .before .before .before .before .before .before .before .register-reader .ensures) _ (c .before .before .before .before .before .before .before .before .before .before .before .before .before .before .before .empty .given .1) _ _ (c .share-published .ensures)
+returns-5 c = new-registered _ _ _ _ _ _ _ _ _ _ (c .before .before .before .before .before .before .before .before .before .before .before .before .before .before .before .before .before .before .before .before .before .before .before .before .before .before .before .before .before .args .seen) _ (c .before .before .before .before .before .before .before .before .before .before .before .before .before .before .before .before .before .before .before .before .before .before .share-refusal .ensures) (c .before .before .before .before .before .before .before .before .before .before .before .before .before .before .before .before .before .before .before .before .before .if1 .left) (c .before .before .before .before .before .before .before .before .before .before .before .before .before .before .before .before .before .before .enum-told .given .1) (sym (c .before .before .before .before .before .before .before .before .before .before .before .before .before .before .before .before .before .before .before .before .bad-card .ensures) ∙ c .before .before .before .before .before .before .before .before .before .before .before .before .before .before .before .before .before .if2 .left) _ _ _ _ (c .before .before .before .before .before .before .before .before .before .register-reader .result) (c .before .before .before .before .before .before .before .before .before .register-reader .ensures) _ (c .before .before .before .before .before .before .before .before .before .before .before .before .before .before .before .empty .given .1) _ (c .share-published .ensures)
 
 pub share-plan-spec : {M : Type 1} → statement M
 share-plan-spec =

@@ -1,4 +1,4 @@
--- `c_readers::reader_calls::wal_unregister_reader_for_snapshot` meets its contract: a walk of its MIR, printed by tools/walk. All that it knows of `look_through`, `unregister_reader_for_snapshot`, `put_record` is that each meets its contract. Assumes nothing.
+-- `c_readers::reader_calls::wal_unregister_reader_for_snapshot` meets its contract: a walk of its MIR, printed by tools/walk. All that it knows of `look_through`, `unregister_reader_for_snapshot`, `release_shared_snapshot_reader` is that each meets its contract. Assumes nothing.
 use mathlib.Core.Path.{_≡_, refl, ap, subst}
 use Prim.Native.Nat.{ℕ, _<_, _^_, min}
 use mathlib.Core.Bool.{Bool}
@@ -48,6 +48,7 @@ use Rattle.reader_shared.specs.Shared.{unregister-reader-for-snapshot}
 use Rattle.c_numbers.specs.Reply.{refusal-number}
 use Rattle.c_numbers.specs.Mode.{mode-given, with-mode}
 use Rattle.c_readers.specs.ReaderReplied.{RegistryReplied}
+use Rattle.reader_marks.specs.InnerChange.{released}
 use Rattle.reader_marks.specs.InnerScan.{seen-of}
 use Rattle.c_readers.specs.InnerSteps.{PlanStep}
 use Rattle.wal_types.specs.declared.SharedReadMark.{SharedReadMark}
@@ -74,10 +75,10 @@ use Rattle.c_readers.proofs.registry_steps.unregister_reader_for_snapsh
 use Rattle.c_readers.proofs.registry_steps.unregister_reader_for_snapshot.Symbol as unregister-reader-for-snapshot-def
 use Rattle.c_readers.proofs.registry_steps.unregister_reader_for_snapshot.Symbol.{name as #c-readers·registry-steps·unregister-reader-for-snapshot}
 use Rattle.c_readers.proofs.registry_steps.unregister_reader_for_snapshot.Met as unregister-reader-for-snapshot-thm
-use Rattle.reader_registry.proofs.put_record as put-record-fn
-use Rattle.reader_registry.proofs.put_record.Symbol as put-record-def
-use Rattle.reader_registry.proofs.put_record.Symbol.{name as #reader-registry·put-record}
-use Rattle.reader_registry.proofs.put_record.Met as put-record-thm
+use Rattle.reader_registry.proofs.release_shared_snapshot_reader as release-shared-snapshot-reader-fn
+use Rattle.reader_registry.proofs.release_shared_snapshot_reader.Symbol as release-shared-snapshot-reader-def
+use Rattle.reader_registry.proofs.release_shared_snapshot_reader.Symbol.{name as #reader-registry·release-shared-snapshot-reader}
+use Rattle.reader_registry.proofs.release_shared_snapshot_reader.Met as release-shared-snapshot-reader-thm
 use Rattle.c_readers.proofs.reader_calls.wal_unregister_reader_for_snapshot.Key.{name as #c-readers·reader-calls·wal-unregister-reader-for-snapshot}
 use Rattle.c_readers.proofs.reader_calls.wal_unregister_reader_for_snapshot as entry
 use Rattle.c_readers.proofs.reader_calls.wal_unregister_reader_for_snapshot.Statement as stated
@@ -93,8 +94,8 @@ Meets-look-through 𝓤 H A mem run = tripleOf 𝓤 H A look-through-fn.signatur
 abbrev Meets-unregister-reader-for-snapshot : {M : Type 1} (𝓤 : URA M) (H : Heap 𝓤) (A : Atoms 𝓤) (mem : Memory → SProp 𝓤) (run : Routine → Fun 𝓤) → Contract 𝓤
 Meets-unregister-reader-for-snapshot 𝓤 H A mem run = tripleOf 𝓤 H A unregister-reader-for-snapshot-fn.signature (unregister-reader-for-snapshot-fn.spec 𝓤 H A mem run)
 
-abbrev Meets-put-record : {M : Type 1} (𝓤 : URA M) (H : Heap 𝓤) (A : Atoms 𝓤) (mem : Memory → SProp 𝓤) (run : Routine → Fun 𝓤) → Contract 𝓤
-Meets-put-record 𝓤 H A mem run = tripleOf 𝓤 H A put-record-fn.signature (put-record-fn.spec 𝓤 H A mem run)
+abbrev Meets-release-shared-snapshot-reader : {M : Type 1} (𝓤 : URA M) (H : Heap 𝓤) (A : Atoms 𝓤) (mem : Memory → SProp 𝓤) (run : Routine → Fun 𝓤) → Contract 𝓤
+Meets-release-shared-snapshot-reader 𝓤 H A mem run = tripleOf 𝓤 H A release-shared-snapshot-reader-fn.signature (release-shared-snapshot-reader-fn.spec 𝓤 H A mem run)
 
 module _ {M : Type 1} (𝓤 : URA M) (H : Heap 𝓤) (A : Atoms 𝓤) (W : Given 𝓤 H A) (mem : Memory → SProp 𝓤) (run : Routine → Fun 𝓤) (κ0 κ1 κ2 κ3 κ4 : Lft) (q0 q1 q2 q3 q4 : Share) (b o : ℕ) (γ : GName) (ys : List SharedReadMark) (n : ℕ) (mode : ℕ) (bitmap : RefT (List ℕ)) (reader-frames : RefT (List ℕ)) (reader-owners : RefT (List ℕ)) (local-readers : RefT (List ℕ)) (mark : ℕ) (slot : ℕ) (owner : ℕ)
     (fits-n : n < 2 ^ 64) (fits-mode : mode < 2 ^ 32) (room-bitmap : Room u64 (length (bitmap .now))) (room-reader-frames : Room u64 (length (reader-frames .now))) (room-reader-owners : Room u64 (length (reader-owners .now))) (room-local-readers : Room u64 (length (local-readers .now))) (room-registry : Room SharedReadMarkT.the-row (length ys)) (fits-mark : mark < 2 ^ 64) (fits-slot : slot < 2 ^ 64) (fits-owner : owner < 2 ^ 64) where
@@ -158,25 +159,25 @@ module _ {M : Type 1} (𝓤 : URA M) (H : Heap 𝓤) (A : Atoms 𝓤) (W : Given
   goes-unregister-reader-for-snapshot t1 v1 = qed W ((‵ (flft κ0 q0) ⊛ ‵ (flft κ1 q1) ⊛ ‵ (flft κ2 q2) ⊛ ‵ (flft κ3 q3) ⊛ ‵ ftrue) ∷ ‵ (owns (usize ∷ u32 ∷ MutSlice (named 0) κ0 u64 ∷ MutSlice (named 1) κ1 u64 ∷ MutSlice (named 2) κ2 u64 ∷ MutSlice (named 3) κ3 u64 ∷ usize ∷ SeenT.the-row ∷ u64 ∷ usize ∷ u64 ∷ []) (args-unregister-reader-for-snapshot t1 v1) (vals-unregister-reader-for-snapshot t1 v1)) ∷ []) ∵ join ! $ frame ! $ done !
 
   abbrev Says-unregister-reader-for-snapshot : Seen → Val → UnshareStep → List ℕ → List ℕ → List ℕ → List ℕ → Type 0
-  Says-unregister-reader-for-snapshot t1 v1 t2 w-bitmap w-reader-frames w-reader-owners w-local-readers = PlanStep refusal-number n mark t1 (length ys) (with-mode (mode-given mode) (λ given. unregister-reader-for-snapshot n given mark slot owner)) (bitmap .now) (reader-frames .now) (reader-owners .now) (local-readers .now) (t2 .refusal) w-bitmap w-reader-frames w-reader-owners w-local-readers (t2 .place) (t2 .item)
+  Says-unregister-reader-for-snapshot t1 v1 t2 w-bitmap w-reader-frames w-reader-owners w-local-readers = PlanStep refusal-number n mark t1 (length ys) (with-mode (mode-given mode) (λ given. unregister-reader-for-snapshot n given mark slot owner)) (bitmap .now) (reader-frames .now) (reader-owners .now) (local-readers .now) (t2 .refusal) w-bitmap w-reader-frames w-reader-owners w-local-readers (released (t2 .released))
 
-  -- `put_record`: what it is passed, and what it tells
-  abbrev args-put-record : UnshareStep → RefT (List SharedReadMark) × (ℕ × (SharedReadMark × Unit {0}))
-  args-put-record t2 = ((at-list γ ys), ((t2 .place), ((t2 .item), tt)))
+  -- `release_shared_snapshot_reader`: what it is passed, and what it tells
+  abbrev args-release-shared-snapshot-reader : UnshareStep → RefT (List SharedReadMark) × (ℕ × Unit {0})
+  args-release-shared-snapshot-reader t2 = ((at-list γ ys), ((t2 .released), tt))
 
-  abbrev vals-put-record : UnshareStep → List Val × (List Val × (List Val × Unit {0}))
-  vals-put-record t2 = (seen ∷ [], (vint w64 (t2 .place) ∷ [], (LL.val SharedReadMarkT.the-type SharedReadMarkL.the-laws (t2 .item) ∷ [], tt)))
+  abbrev vals-release-shared-snapshot-reader : UnshareStep → List Val × (List Val × Unit {0})
+  vals-release-shared-snapshot-reader t2 = (seen ∷ [], (vint w64 (t2 .released) ∷ [], tt))
 
-  abbrev to-put-record : UnshareStep → Meets-put-record 𝓤 H A mem run .Ghost
-  to-put-record t2 = (((κ4, tt), (q4, tt), tt, args-put-record t2, vals-put-record t2), tt)
+  abbrev to-release-shared-snapshot-reader : UnshareStep → Meets-release-shared-snapshot-reader 𝓤 H A mem run .Ghost
+  to-release-shared-snapshot-reader t2 = (((κ4, tt), (q4, tt), tt, args-release-shared-snapshot-reader t2, vals-release-shared-snapshot-reader t2), tt)
 
-  goes-put-record : (t2 : UnshareStep) → ent 𝓤 (⋆ 𝓤 H A ((‵ (flft κ4 q4) ⊛ ‵ ftrue) ∷ ‵ (owns (MutSlice (named 0) κ4 SharedReadMarkT.the-row ∷ usize ∷ SharedReadMarkT.the-row ∷ []) (args-put-record t2) (vals-put-record t2)) ∷ [])) (Meets-put-record 𝓤 H A mem run .pre (to-put-record t2))
-  goes-put-record t2 = qed W ((‵ (flft κ4 q4) ⊛ ‵ ftrue) ∷ ‵ (owns (MutSlice (named 0) κ4 SharedReadMarkT.the-row ∷ usize ∷ SharedReadMarkT.the-row ∷ []) (args-put-record t2) (vals-put-record t2)) ∷ []) ∵ join ! $ frame ! $ done !
+  goes-release-shared-snapshot-reader : (t2 : UnshareStep) → ent 𝓤 (⋆ 𝓤 H A ((‵ (flft κ4 q4) ⊛ ‵ ftrue) ∷ ‵ (owns (MutSlice (named 0) κ4 SharedReadMarkT.the-row ∷ usize ∷ []) (args-release-shared-snapshot-reader t2) (vals-release-shared-snapshot-reader t2)) ∷ [])) (Meets-release-shared-snapshot-reader 𝓤 H A mem run .pre (to-release-shared-snapshot-reader t2))
+  goes-release-shared-snapshot-reader t2 = qed W ((‵ (flft κ4 q4) ⊛ ‵ ftrue) ∷ ‵ (owns (MutSlice (named 0) κ4 SharedReadMarkT.the-row ∷ usize ∷ []) (args-release-shared-snapshot-reader t2) (vals-release-shared-snapshot-reader t2)) ∷ []) ∵ join ! $ frame ! $ done !
 
-  abbrev Says-put-record : UnshareStep → Unit {0} → List SharedReadMark → Type 0
-  Says-put-record t2 t3 w-registry = w-registry ≡ set ys (t2 .place) (t2 .item)
+  abbrev Says-release-shared-snapshot-reader : UnshareStep → Unit {0} → List SharedReadMark → Type 0
+  Says-release-shared-snapshot-reader t2 t3 w-registry = w-registry ≡ released (t2 .released) ys
 
-  module _ (C : Calls 𝓤 H) (Λ : Loops 𝓤 H) (fm : FmC 𝓤 H (W .laws) C) (known-look-through : Triple 𝓤 (C #reader-registry·look-through) (Meets-look-through 𝓤 H A mem run)) (known-unregister-reader-for-snapshot : Triple 𝓤 (C #c-readers·registry-steps·unregister-reader-for-snapshot) (Meets-unregister-reader-for-snapshot 𝓤 H A mem run)) (known-put-record : Triple 𝓤 (C #reader-registry·put-record) (Meets-put-record 𝓤 H A mem run)) where
+  module _ (C : Calls 𝓤 H) (Λ : Loops 𝓤 H) (fm : FmC 𝓤 H (W .laws) C) (known-look-through : Triple 𝓤 (C #reader-registry·look-through) (Meets-look-through 𝓤 H A mem run)) (known-unregister-reader-for-snapshot : Triple 𝓤 (C #c-readers·registry-steps·unregister-reader-for-snapshot) (Meets-unregister-reader-for-snapshot 𝓤 H A mem run)) (known-release-shared-snapshot-reader : Triple 𝓤 (C #reader-registry·release-shared-snapshot-reader) (Meets-release-shared-snapshot-reader 𝓤 H A mem run)) where
     walk : ent 𝓤 (onEntry 𝓤 H A entry.signature (κ0, (κ1, (κ2, (κ3, (κ4, tt))))) (q0, (q1, (q2, (q3, (q4, tt))))) passed at) (WpFn 𝓤 H C Λ code.function flat Post)
     walk =
         qed W ((‵ (flft κ0 q0) ⊛ ‵ (flft κ1 q1) ⊛ ‵ (flft κ2 q2) ⊛ ‵ (flft κ3 q3) ⊛ ‵ (flft κ4 q4) ⊛ ‵ ftrue) ∷ ‵ (owns (usize ∷ u32 ∷ MutSlice (named 0) κ0 u64 ∷ MutSlice (named 1) κ1 u64 ∷ MutSlice (named 2) κ2 u64 ∷ MutSlice (named 3) κ3 u64 ∷ MutSlice (named 4) κ4 SharedReadMarkT.the-row ∷ u64 ∷ usize ∷ u64 ∷ []) passed at) ∷ []) ∵ enter ! C Λ code.function flat _ $
@@ -233,18 +234,16 @@ module _ {M : Type 1} (𝓤 : URA M) (H : Heap 𝓤) (A : Atoms 𝓤) (W : Given
         rewrite ! 33 (λ (u : Val). ‵ (fat fullShare UnshareStepL.mir l₁₃ 0 u)) (ap only (LL.tells UnshareStepT.the-type UnshareStepL.the-laws t2 (v2 ∷ []) is2)) refl $ split ! $ move ! (1 ∷ []) $ split ! $ move ! (1 ∷ []) $
         split ! $ move ! (1 ∷ []) $ split ! $ move ! (1 ∷ []) $ drop ! $ assigns ! (addr ! (from ! (fld ! refl (hop ! (look-in ! 48 (sub ! 0 refl (whole !))) (stop !))))) (from ! (stop !)) (init ! 12 refl (tt, tt)) $
         assigns ! (agg ! (and-then ! (load ! (from ! (stop !)) (look ! 12 refl)) (and-then ! (load ! (from ! (fld ! refl (stop !))) (look-in ! 48 (sub ! 1 refl (whole !)))) (no-more !)))) (from ! (stop !)) (init ! 10 refl (tt, (tt, (record { fits = room-registry .0 }, tt)))) $
-        -- `put_record`
-        nothing ! $
-        owned ! SharedReadMarkT.the-row (Is SharedReadMarkT.the-row) (LL.makes SharedReadMarkT.the-type SharedReadMarkL.the-plain 𝓤 H A) (t2 .item) _ (LL.owed UnshareStepT.the-type UnshareStepL.the-laws t2 _ is2 .1 .0) $
-        fjoin ! $ owned ! usize (Is usize) (uint-makes 𝓤 H A W w64) (t2 .place) _ (refl, LL.owed UnshareStepT.the-type UnshareStepL.the-laws t2 _ is2 .0 .1) $ fjoin ! $ move ! (9 ∷ 0 ∷ []) $ fjoin ! $ nothing ! $
-        move ! (10 ∷ 0 ∷ []) $ join ! $ use2 W (raw (Meets-put-record 𝓤 H A mem run .pre (to-put-record t2))) (goes-put-record t2) $
-        calls-at ! fm (Meets-put-record 𝓤 H A mem run) known-put-record (to-put-record t2) (and-then ! (load ! (from ! (stop !)) (look ! 9 refl)) (and-then ! (load ! (from ! (fld ! refl (stop !))) (look-in ! 35 (sub ! 0 refl (whole !)))) (and-then ! (load ! (from ! (fld ! refl (stop !))) (look-in ! 35 (sub ! 1 refl (whole !)))) (no-more !)))) (λ v3.
-        use1 W (later (some (λ (t3 : Unit {0}). ((‵ (flft κ4 q4) ⊛ ‵ ftrue) ⊛ ‵ (unit .own t3 (v3 ∷ []))) ⊛ raw (ensured 𝓤 H A put-record-fn.ended (put-record-fn.clauses 𝓤 H A mem run) (κ4, tt) (args-put-record t2) tt t3)))) (id⊢ 𝓤 _) $ await ! tt $ pick ! (λ t3.
+        -- `release_shared_snapshot_reader`
+        nothing ! $ owned ! usize (Is usize) (uint-makes 𝓤 H A W w64) (t2 .released) _ (refl, LL.owed UnshareStepT.the-type UnshareStepL.the-laws t2 _ is2 .0 .1) $ fjoin ! $ move ! (9 ∷ 0 ∷ []) $ fjoin ! $ nothing ! $
+        move ! (10 ∷ 0 ∷ []) $ join ! $ use2 W (raw (Meets-release-shared-snapshot-reader 𝓤 H A mem run .pre (to-release-shared-snapshot-reader t2))) (goes-release-shared-snapshot-reader t2) $
+        calls-at ! fm (Meets-release-shared-snapshot-reader 𝓤 H A mem run) known-release-shared-snapshot-reader (to-release-shared-snapshot-reader t2) (and-then ! (load ! (from ! (stop !)) (look ! 9 refl)) (and-then ! (load ! (from ! (fld ! refl (stop !))) (look-in ! 35 (sub ! 0 refl (whole !)))) (no-more !))) (λ v3.
+        use1 W (later (some (λ (t3 : Unit {0}). ((‵ (flft κ4 q4) ⊛ ‵ ftrue) ⊛ ‵ (unit .own t3 (v3 ∷ []))) ⊛ raw (ensured 𝓤 H A release-shared-snapshot-reader-fn.ended (release-shared-snapshot-reader-fn.clauses 𝓤 H A mem run) (κ4, tt) (args-release-shared-snapshot-reader t2) tt t3)))) (id⊢ 𝓤 _) $ await ! tt $ pick ! (λ t3.
         split ! $ move ! (1 ∷ []) $
-        use1 W (some (λ (ws3 : List SharedReadMark × (Unit {0} × (Unit {0} × Unit {0}))). ‵ (lasts put-record-fn.ended (κ4, tt) (args-put-record t2) ws3) ⊛ raw (fact 𝓤 (Says-put-record t2 t3 (ws3 .0))))) (id⊢ 𝓤 _) $ pick ! (λ ws3.
-        split ! $ move ! (1 ∷ []) $ heard ! (Says-put-record t2 t3 (ws3 .0)) (λ e3. fsplit ! $ fsplit ! $ move ! (1 ∷ []) $ feqL ! (λ long-registry. move ! (1 ∷ []) $ drop ! $ move ! (1 ∷ []) $ split ! $ move ! (1 ∷ []) $
-        peeks ! unit (Is unit) (shows 𝓤 H A unit) t3 (v3 ∷ []) (λ is3. drop ! $ land ! (from ! (stop !)) (init ! 14 refl (nothing-lawful 𝓤 H A W .typed t3 _ is3 .0)) $ split ! $ move ! (1 ∷ []) $ drop ! $
-        assigns ! (of-opd ! (load ! (from ! (fld ! refl (stop !))) (look-in ! 36 (sub ! 2 refl (whole !))))) (from ! (stop !)) (init ! 62 refl (tt, record { fits = LL.owed UnshareStepT.the-type UnshareStepL.the-laws t2 _ is2 .1 .1 .0 .1 })) $
+        use1 W (some (λ (ws3 : List SharedReadMark × (Unit {0} × Unit {0})). ‵ (lasts release-shared-snapshot-reader-fn.ended (κ4, tt) (args-release-shared-snapshot-reader t2) ws3) ⊛ raw (fact 𝓤 (Says-release-shared-snapshot-reader t2 t3 (ws3 .0))))) (id⊢ 𝓤 _) $ pick ! (λ ws3.
+        split ! $ move ! (1 ∷ []) $ heard ! (Says-release-shared-snapshot-reader t2 t3 (ws3 .0)) (λ e3. fsplit ! $ fsplit ! $ move ! (1 ∷ []) $ feqL ! (λ long-registry. move ! (1 ∷ []) $ drop ! $ move ! (1 ∷ []) $ split ! $
+        move ! (1 ∷ []) $ peeks ! unit (Is unit) (shows 𝓤 H A unit) t3 (v3 ∷ []) (λ is3. drop ! $ land ! (from ! (stop !)) (init ! 14 refl (nothing-lawful 𝓤 H A W .typed t3 _ is3 .0)) $ split ! $ move ! (1 ∷ []) $ drop ! $
+        assigns ! (of-opd ! (load ! (from ! (fld ! refl (stop !))) (look-in ! 36 (sub ! 1 refl (whole !))))) (from ! (stop !)) (init ! 62 refl (tt, record { fits = LL.owed UnshareStepT.the-type UnshareStepL.the-laws t2 _ is2 .1 .0 .1 })) $
         -- the end
         returns ! (look ! 62 refl) $ forget ! 10 refl $ forget ! 12 refl $ forget ! 14 refl $ forget ! 16 refl $ forget ! 18 refl $ forget ! 20 refl $ forget ! 22 refl $ forget ! 24 refl $ forget ! 26 refl $ forget ! 28 refl $
         forget ! 30 refl $ forget ! 32 refl $ forget ! 34 refl $ forget ! 36 refl $ forget ! 38 refl $ forget ! 40 refl $ forget ! 42 refl $ forget ! 44 refl $ forget ! 46 refl $ forget ! 48 refl $ forget ! 50 refl $
@@ -254,20 +253,20 @@ module _ {M : Type 1} (𝓤 : URA M) (H : Heap 𝓤) (A : Atoms 𝓤) (W : Given
         move ! (32 ∷ 33 ∷ []) $ free1 ! $ move ! (30 ∷ 31 ∷ []) $ free1 ! $ move ! (28 ∷ 29 ∷ []) $ free1 ! $ move ! (26 ∷ 27 ∷ []) $ free1 ! $ move ! (24 ∷ 25 ∷ []) $ free1 ! $ move ! (22 ∷ 23 ∷ []) $ free1 ! $
         move ! (20 ∷ 21 ∷ []) $ free1 ! $ move ! (18 ∷ 19 ∷ []) $ free1 ! $ move ! (16 ∷ 17 ∷ []) $ free1 ! $ move ! (14 ∷ 15 ∷ []) $ free1 ! $ move ! (12 ∷ 13 ∷ []) $ free1 ! $ move ! (10 ∷ 11 ∷ []) $ free1 ! $ free0 ! $
         nothing ! $ move ! (1 ∷ 0 ∷ []) $ join ! $ move ! (2 ∷ 0 ∷ []) $ join ! $ move ! (2 ∷ 0 ∷ []) $ join ! $ move ! (2 ∷ 0 ∷ []) $ join ! $ move ! (2 ∷ 0 ∷ []) $ join ! $ keep ! (0 ∷ 5 ∷ 4 ∷ 3 ∷ 2 ∷ 1 ∷ []) $
-        by ! (exits (t2 .refusal) (refl, LL.owed UnshareStepT.the-type UnshareStepL.the-laws t2 _ is2 .1 .1 .0 .1) (ws2 .1 .1 .0) (ws2 .1 .1 .1 .0) (ws2 .1 .1 .1 .1 .0) (ws2 .1 .1 .1 .1 .1 .0) (ws3 .0) (plan-taken _ _ _ _ _ _ _ _ _ _ _ _ _ _ _ _ ys _ e2 e1 e3) long-bitmap long-reader-frames long-reader-owners long-local-readers long-registry))))))))))))))))))))))))))))))))))))))))))))))))))
+        by ! (exits (t2 .refusal) (refl, LL.owed UnshareStepT.the-type UnshareStepL.the-laws t2 _ is2 .1 .0 .1) (ws2 .1 .1 .0) (ws2 .1 .1 .1 .0) (ws2 .1 .1 .1 .1 .0) (ws2 .1 .1 .1 .1 .1 .0) (ws3 .0) (plan-taken _ _ _ _ _ _ _ _ _ _ _ _ _ _ _ ys _ e2 e1 e3) long-bitmap long-reader-frames long-reader-owners long-local-readers long-registry))))))))))))))))))))))))))))))))))))))))))))))))))
 
 module _ {M : Type 1} (𝓤 : URA M) (H : Heap 𝓤) (A : Atoms 𝓤) (W : Given 𝓤 H A) (mem : Memory → SProp 𝓤) (run : Routine → Fun 𝓤) where
-  entry-walks : (C : Calls 𝓤 H) (Λ : Loops 𝓤 H) → FmC 𝓤 H (W .laws) C → Triple 𝓤 (C #reader-registry·look-through) (Meets-look-through 𝓤 H A mem run) → Triple 𝓤 (C #c-readers·registry-steps·unregister-reader-for-snapshot) (Meets-unregister-reader-for-snapshot 𝓤 H A mem run) → Triple 𝓤 (C #reader-registry·put-record) (Meets-put-record 𝓤 H A mem run) → Walks 𝓤 H A entry.ended stayed (WpFn 𝓤 H C Λ code.function) (entry.clauses 𝓤 H A mem run)
-  entry-walks C Λ fm known-look-through known-unregister-reader-for-snapshot known-put-record = walked 𝓤 H A entry.ended stayed (entry.clauses 𝓤 H A mem run) (WpFn 𝓤 H C Λ code.function)
+  entry-walks : (C : Calls 𝓤 H) (Λ : Loops 𝓤 H) → FmC 𝓤 H (W .laws) C → Triple 𝓤 (C #reader-registry·look-through) (Meets-look-through 𝓤 H A mem run) → Triple 𝓤 (C #c-readers·registry-steps·unregister-reader-for-snapshot) (Meets-unregister-reader-for-snapshot 𝓤 H A mem run) → Triple 𝓤 (C #reader-registry·release-shared-snapshot-reader) (Meets-release-shared-snapshot-reader 𝓤 H A mem run) → Walks 𝓤 H A entry.ended stayed (WpFn 𝓤 H C Λ code.function) (entry.clauses 𝓤 H A mem run)
+  entry-walks C Λ fm known-look-through known-unregister-reader-for-snapshot known-release-shared-snapshot-reader = walked 𝓤 H A entry.ended stayed (entry.clauses 𝓤 H A mem run) (WpFn 𝓤 H C Λ code.function)
       (λ κs. (uint-vals w64, (uint-vals w32, (slice-vals, (slice-vals, (slice-vals, (slice-vals, (slice-vals, (uint-vals w64, (uint-vals w64, (uint-vals w64, tt))))))))))) (λ κs. (uint-tells w64, (uint-tells w32, (mut-slice-tells (named 0) (κs .0) u64, (mut-slice-tells (named 1) (κs .1 .0) u64, (mut-slice-tells (named 2) (κs .1 .1 .0) u64, (mut-slice-tells (named 3) (κs .1 .1 .1 .0) u64, (mut-slice-tells (named 4) (κs .1 .1 .1 .1 .0) SharedReadMarkT.the-row, (uint-tells w64, (uint-tells w64, (uint-tells w64, tt)))))))))))
       (λ κs qs bounds a g are. via 𝓤 _ (fst∗ 𝓤 _ (emp 𝓤))
-      (walk 𝓤 H A W mem run (κs .0) (κs .1 .0) (κs .1 .1 .0) (κs .1 .1 .1 .0) (κs .1 .1 .1 .1 .0) (qs .0) (qs .1 .0) (qs .1 .1 .0) (qs .1 .1 .1 .0) (qs .1 .1 .1 .1 .0) (a .1 .1 .1 .1 .1 .1 .0 .ptr .0) (a .1 .1 .1 .1 .1 .1 .0 .ptr .1) (a .1 .1 .1 .1 .1 .1 .0 .name) (a .1 .1 .1 .1 .1 .1 .0 .now) (a .0) (a .1 .0) (a .1 .1 .0) (a .1 .1 .1 .0) (a .1 .1 .1 .1 .0) (a .1 .1 .1 .1 .1 .0) (a .1 .1 .1 .1 .1 .1 .1 .0) (a .1 .1 .1 .1 .1 .1 .1 .1 .0) (a .1 .1 .1 .1 .1 .1 .1 .1 .1 .0) (are .0 .1) (are .1 .0 .1) (are .1 .1 .0 .0 .1) (are .1 .1 .1 .0 .0 .1) (are .1 .1 .1 .1 .0 .0 .1) (are .1 .1 .1 .1 .1 .0 .0 .1) (are .1 .1 .1 .1 .1 .1 .0 .0 .1) (are .1 .1 .1 .1 .1 .1 .1 .0 .1) (are .1 .1 .1 .1 .1 .1 .1 .1 .0 .1) (are .1 .1 .1 .1 .1 .1 .1 .1 .1 .0 .1) C Λ fm known-look-through known-unregister-reader-for-snapshot known-put-record))
+      (walk 𝓤 H A W mem run (κs .0) (κs .1 .0) (κs .1 .1 .0) (κs .1 .1 .1 .0) (κs .1 .1 .1 .1 .0) (qs .0) (qs .1 .0) (qs .1 .1 .0) (qs .1 .1 .1 .0) (qs .1 .1 .1 .1 .0) (a .1 .1 .1 .1 .1 .1 .0 .ptr .0) (a .1 .1 .1 .1 .1 .1 .0 .ptr .1) (a .1 .1 .1 .1 .1 .1 .0 .name) (a .1 .1 .1 .1 .1 .1 .0 .now) (a .0) (a .1 .0) (a .1 .1 .0) (a .1 .1 .1 .0) (a .1 .1 .1 .1 .0) (a .1 .1 .1 .1 .1 .0) (a .1 .1 .1 .1 .1 .1 .1 .0) (a .1 .1 .1 .1 .1 .1 .1 .1 .0) (a .1 .1 .1 .1 .1 .1 .1 .1 .1 .0) (are .0 .1) (are .1 .0 .1) (are .1 .1 .0 .0 .1) (are .1 .1 .1 .0 .0 .1) (are .1 .1 .1 .1 .0 .0 .1) (are .1 .1 .1 .1 .1 .0 .0 .1) (are .1 .1 .1 .1 .1 .1 .0 .0 .1) (are .1 .1 .1 .1 .1 .1 .1 .0 .1) (are .1 .1 .1 .1 .1 .1 .1 .1 .0 .1) (are .1 .1 .1 .1 .1 .1 .1 .1 .1 .0 .1) C Λ fm known-look-through known-unregister-reader-for-snapshot known-release-shared-snapshot-reader))
 
-entry-meets : {M : Type 1} (𝓤 : URA M) (H : Heap 𝓤) (A : Atoms 𝓤) (W : Given 𝓤 H A) (mem : Memory → SProp 𝓤) (run : Routine → Fun 𝓤) (𝓣 : Tables 𝓤 H) → Triple 𝓤 (𝓣 .C #reader-registry·look-through) (Meets-look-through 𝓤 H A mem run) → Triple 𝓤 (𝓣 .C #c-readers·registry-steps·unregister-reader-for-snapshot) (Meets-unregister-reader-for-snapshot 𝓤 H A mem run) → Triple 𝓤 (𝓣 .C #reader-registry·put-record) (Meets-put-record 𝓤 H A mem run)
+entry-meets : {M : Type 1} (𝓤 : URA M) (H : Heap 𝓤) (A : Atoms 𝓤) (W : Given 𝓤 H A) (mem : Memory → SProp 𝓤) (run : Routine → Fun 𝓤) (𝓣 : Tables 𝓤 H) → Triple 𝓤 (𝓣 .C #reader-registry·look-through) (Meets-look-through 𝓤 H A mem run) → Triple 𝓤 (𝓣 .C #c-readers·registry-steps·unregister-reader-for-snapshot) (Meets-unregister-reader-for-snapshot 𝓤 H A mem run) → Triple 𝓤 (𝓣 .C #reader-registry·release-shared-snapshot-reader) (Meets-release-shared-snapshot-reader 𝓤 H A mem run)
     → Meets 𝓤 H A entry.signature (WpFn 𝓤 H (𝓣 .C) (𝓣 .Λ) code.function) (entry.spec 𝓤 H A mem run)
-entry-meets 𝓤 H A W mem run 𝓣 known-look-through known-unregister-reader-for-snapshot known-put-record =
+entry-meets 𝓤 H A W mem run 𝓣 known-look-through known-unregister-reader-for-snapshot known-release-shared-snapshot-reader =
     walk-meets 𝓤 H A entry.ended stayed W (goes-none 𝓤 H A W 5 (λ _. usize) yes (λ κs x f. refl), (goes-none 𝓤 H A W 5 (λ _. u32) yes (λ κs x f. refl), (goes-gave-slice 𝓤 H A W 5 0 tt (plain (λ _. u64)), (goes-gave-slice 𝓤 H A W 5 1 tt (plain (λ _. u64)), (goes-gave-slice 𝓤 H A W 5 2 tt (plain (λ _. u64)), (goes-gave-slice 𝓤 H A W 5 3 tt (plain (λ _. u64)), (goes-gave-slice 𝓤 H A W 5 4 tt (plain (λ _. SharedReadMarkT.the-row)), (goes-none 𝓤 H A W 5 (λ _. u64) yes (λ κs x f. refl), (goes-none 𝓤 H A W 5 (λ _. usize) yes (λ κs x f. refl), (goes-none 𝓤 H A W 5 (λ _. u64) yes (λ κs x f. refl), tt)))))))))) (entry.clauses 𝓤 H A mem run)
-    (WpFn 𝓤 H (𝓣 .C) (𝓣 .Λ) code.function) (WpFn-mono 𝓤 H (W .laws) 𝓣 code.function) (entry-walks 𝓤 H A W mem run (𝓣 .C) (𝓣 .Λ) (fmOf 𝓤 H (W .laws) 𝓣) known-look-through known-unregister-reader-for-snapshot known-put-record)
+    (WpFn 𝓤 H (𝓣 .C) (𝓣 .Λ) code.function) (WpFn-mono 𝓤 H (W .laws) 𝓣 code.function) (entry-walks 𝓤 H A W mem run (𝓣 .C) (𝓣 .Λ) (fmOf 𝓤 H (W .laws) 𝓣) known-look-through known-unregister-reader-for-snapshot known-release-shared-snapshot-reader)
 
 pub wal-unregister-reader-for-snapshot-spec : {M : Type 1} → stated.statement M
 unfolding code.routine tablesOf
@@ -277,4 +276,4 @@ wal-unregister-reader-for-snapshot-spec 𝓤 H 𝓜 𝓖 𝓡 =
     (entry-meets 𝓤 H (𝓖 .A) (givenOf 𝓤 H 𝓜 𝓖) (𝓜 .mem) (𝓡 .run) (tablesOf 𝓤 H 𝓜 (tables 𝓤 H 𝓜 𝓡 code.env))
     (cited 𝓤 H (Meets-look-through 𝓤 H (𝓖 .A) (𝓜 .mem) (𝓡 .run)) 𝓜 𝓡 code.env #reader-registry·look-through look-through-def.routine code.calls-reader-registry·look-through (look-through-thm.met 𝓤 H 𝓜 𝓖 𝓡))
     (cited 𝓤 H (Meets-unregister-reader-for-snapshot 𝓤 H (𝓖 .A) (𝓜 .mem) (𝓡 .run)) 𝓜 𝓡 code.env #c-readers·registry-steps·unregister-reader-for-snapshot unregister-reader-for-snapshot-def.routine code.calls-c-readers·registry-steps·unregister-reader-for-snapshot (unregister-reader-for-snapshot-thm.met 𝓤 H 𝓜 𝓖 𝓡))
-    (cited 𝓤 H (Meets-put-record 𝓤 H (𝓖 .A) (𝓜 .mem) (𝓡 .run)) 𝓜 𝓡 code.env #reader-registry·put-record put-record-def.routine code.calls-reader-registry·put-record (put-record-thm.met 𝓤 H 𝓜 𝓖 𝓡)))
+    (cited 𝓤 H (Meets-release-shared-snapshot-reader 𝓤 H (𝓖 .A) (𝓜 .mem) (𝓡 .run)) 𝓜 𝓡 code.env #reader-registry·release-shared-snapshot-reader release-shared-snapshot-reader-def.routine code.calls-reader-registry·release-shared-snapshot-reader (release-shared-snapshot-reader-thm.met 𝓤 H 𝓜 𝓖 𝓡)))

@@ -19,7 +19,7 @@ share-unknown-requires : tie.Need-share-unknown-requires
 share-unknown-requires c κs = search needs
 
 returns : tie.Need-returns
-returns c = share-refused (c .before .before .before .before .before .before .before .before .before .before .args .mode) _ (c .before .before .before .before .mode-of .ensures) (λ given. register-reader-for-snapshot (c .before .before .before .before .before .before .before .before .before .before .args .n) given (c .before .before .before .before .before .before .before .before .before .before .args .owner) (c .before .before .before .before .before .before .before .before .before .before .args .mark) (c .before .before .before .before .before .before .before .before .before .before .args .card .now)) (c .before .before .before .before .before .before .before .before .before .before .args .n) (c .before .before .before .before .before .before .before .before .before .before .args .records) (c .before .before .before .before .before .before .before .before .before .before .args .mark) (c .before .before .before .before .before .before .before .before .before .before .args .seen) _ _ _ _ (c .before .before .enum-told .given .1) _ _ (c .share-unknown .ensures)
+returns c = share-refused (c .before .before .before .before .before .before .before .before .before .args .mode) _ (c .before .before .before .mode-of .ensures) (λ given. register-reader-for-snapshot (c .before .before .before .before .before .before .before .before .before .args .n) given (c .before .before .before .before .before .before .before .before .before .args .owner .0) (c .before .before .before .before .before .before .before .before .before .args .mark) (c .before .before .before .before .before .before .before .before .before .args .card .now)) (c .before .before .before .before .before .before .before .before .before .args .n) (c .before .before .before .before .before .before .before .before .before .args .records) (c .before .before .before .before .before .before .before .before .before .args .mark) (c .before .before .before .before .before .before .before .before .before .args .seen) _ _ _ _ (c .before .before .before .before .before .before .before .before .before .args .owner) (c .before .enum-told .given .1) _ (c .share-unknown .ensures)
 
 share-plan-requires : tie.Need-share-plan-requires
 share-plan-requires c κs = search needs
@@ -40,7 +40,7 @@ same-length-4 : tie.Need-same-length-4
 same-length-4 c = search needs
 
 returns-2 : tie.Need-returns-2
-returns-2 c = share-made (c .before .before .before .before .before .before .before .before .before .before .before .before .before .before .before .before .before .before .before .before .before .before .before .args .mode) _ (c .before .before .before .before .before .before .before .before .before .before .before .before .before .before .before .before .before .mode-of .ensures) (λ given. register-reader-for-snapshot (c .before .before .before .before .before .before .before .before .before .before .before .before .before .before .before .before .before .before .before .before .before .before .before .args .n) given (c .before .before .before .before .before .before .before .before .before .before .before .before .before .before .before .before .before .before .before .before .before .before .before .args .owner) (c .before .before .before .before .before .before .before .before .before .before .before .before .before .before .before .before .before .before .before .before .before .before .before .args .mark) (c .before .before .before .before .before .before .before .before .before .before .before .before .before .before .before .before .before .before .before .before .before .before .before .args .card .now)) (c .before .before .before .before .before .before .before .before .before .before .before .before .before .before .before .before .before .before .before .before .before .before .before .args .n) (c .before .before .before .before .before .before .before .before .before .before .before .before .before .before .before .before .before .before .before .before .before .before .before .args .records) (c .before .before .before .before .before .before .before .before .before .before .before .before .before .before .before .before .before .before .before .before .before .before .before .args .mark) (c .before .before .before .before .before .before .before .before .before .before .before .before .before .before .before .before .before .before .before .before .before .before .before .args .seen) _ _ _ _ _ (c .before .before .before .before .before .before .before .before .before .before .before .before .before .before .before .given .given .1) _ _ _ _ (c .before .before .before .before .before .before .before .before .before .share-plan .result) (c .before .before .before .before .before .before .before .before .before .share-plan .ensures) _ (c .share-step .ensures)
+returns-2 c = share-made (c .before .before .before .before .before .before .before .before .before .before .before .before .before .before .before .before .before .before .before .before .before .before .before .args .mode) _ (c .before .before .before .before .before .before .before .before .before .before .before .before .before .before .before .before .before .mode-of .ensures) (λ given. register-reader-for-snapshot (c .before .before .before .before .before .before .before .before .before .before .before .before .before .before .before .before .before .before .before .before .before .before .before .args .n) given (c .before .before .before .before .before .before .before .before .before .before .before .before .before .before .before .before .before .before .before .before .before .before .before .args .owner .0) (c .before .before .before .before .before .before .before .before .before .before .before .before .before .before .before .before .before .before .before .before .before .before .before .args .mark) (c .before .before .before .before .before .before .before .before .before .before .before .before .before .before .before .before .before .before .before .before .before .before .before .args .card .now)) (c .before .before .before .before .before .before .before .before .before .before .before .before .before .before .before .before .before .before .before .before .before .before .before .args .n) (c .before .before .before .before .before .before .before .before .before .before .before .before .before .before .before .before .before .before .before .before .before .before .before .args .records) (c .before .before .before .before .before .before .before .before .before .before .before .before .before .before .before .before .before .before .before .before .before .before .before .args .mark) (c .before .before .before .before .before .before .before .before .before .before .before .before .before .before .before .before .before .before .before .before .before .before .before .args .seen) _ _ _ _ (c .before .before .before .before .before .before .before .before .before .before .before .before .before .before .before .before .before .before .before .before .before .before .before .args .owner) _ (c .before .before .before .before .before .before .before .before .before .before .before .before .before .before .before .given .given .1) _ _ _ _ (c .before .before .before .before .before .before .before .before .before .share-plan .result) (c .before .before .before .before .before .before .before .before .before .share-plan .ensures) _ (c .share-step .ensures)
 
 pub register-reader-for-snapshot-spec : {M : Type 1} → statement M
 register-reader-for-snapshot-spec =

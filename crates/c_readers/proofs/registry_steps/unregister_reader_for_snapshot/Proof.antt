@@ -19,7 +19,7 @@ unshare-unknown-requires : tie.Need-unshare-unknown-requires
 unshare-unknown-requires c κs = search needs
 
 returns : tie.Need-returns
-returns c = unshare-refused (c .before .before .before .before .before .before .before .before .before .args .mode) _ (c .before .before .before .before .mode-of .ensures) (λ given. unregister-reader-for-snapshot (c .before .before .before .before .before .before .before .before .before .args .n) given (c .before .before .before .before .before .before .before .before .before .args .mark) (c .before .before .before .before .before .before .before .before .before .args .slot) (c .before .before .before .before .before .before .before .before .before .args .owner)) (c .before .before .before .before .before .before .before .before .before .args .n) (c .before .before .before .before .before .before .before .before .before .args .records) (c .before .before .before .before .before .before .before .before .before .args .mark) (c .before .before .before .before .before .before .before .before .before .args .seen) _ _ _ _ (c .before .before .enum-told .given .1) _ _ (c .unshare-unknown .ensures)
+returns c = unshare-refused (c .before .before .before .before .before .before .before .before .args .mode) _ (c .before .before .before .mode-of .ensures) (λ given. unregister-reader-for-snapshot (c .before .before .before .before .before .before .before .before .args .n) given (c .before .before .before .before .before .before .before .before .args .mark) (c .before .before .before .before .before .before .before .before .args .slot) (c .before .before .before .before .before .before .before .before .args .owner)) (c .before .before .before .before .before .before .before .before .args .n) (c .before .before .before .before .before .before .before .before .args .records) (c .before .before .before .before .before .before .before .before .args .mark) (c .before .before .before .before .before .before .before .before .args .seen) _ _ _ _ (c .before .enum-told .given .1) _ (c .unshare-unknown .ensures)
 
 unshare-plan-requires : tie.Need-unshare-plan-requires
 unshare-plan-requires c κs = search needs

@@ -15,11 +15,8 @@ share-nothing-requires-2 c κs = search needs
 returns-2 : tie.Need-returns-2
 returns-2 c = joined-bad-card _ _ _ _ _ (c .before .before .if1 .left) (c .before .if2 .taken) _ (c .share-nothing2 .ensures)
 
-retain-shared-snapshot-reader-requires : tie.Need-retain-shared-snapshot-reader-requires
-retain-shared-snapshot-reader-requires c κs = search needs
-
 returns-3 : tie.Need-returns-3
-returns-3 c = joined-kept _ _ _ _ _ (c .before .before .if1 .left) (c .before .if2 .left) _ (c .retain-shared-snapshot-reader .ensures)
+returns-3 c = joined-kept _ _ _ _ _ (c .before .if1 .left) (c .if2 .left)
 
 pub share-joined-spec : {M : Type 1} → statement M
 share-joined-spec =
@@ -29,5 +26,4 @@ share-joined-spec =
     returns
     share-nothing-requires-2
     returns-2
-    retain-shared-snapshot-reader-requires
     returns-3)

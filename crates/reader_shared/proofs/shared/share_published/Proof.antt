@@ -11,16 +11,13 @@ share-nothing-requires : tie.Need-share-nothing-requires
 share-nothing-requires c κs = search needs
 
 returns : tie.Need-returns
-returns c = published-none _ _ _ _ _ _ (c .before .match .keys2) _ (c .share-nothing .ensures)
+returns c = published-none _ _ _ _ _ (c .before .match .keys2) _ (c .share-nothing .ensures)
 
 cast-number : tie.Need-cast-number
 cast-number c = let q = c .before .before .before .pre _ (c .before .registered .given .1) in omega (arith, q)
 
-publish-shared-snapshot-reader-requires : tie.Need-publish-shared-snapshot-reader-requires
-publish-shared-snapshot-reader-requires c κs = search needs
-
 returns-2 : tie.Need-returns-2
-returns-2 c = published-taken _ _ _ _ _ _ _ (c .before .before .registered .given .1) _ (c .publish-shared-snapshot-reader .ensures)
+returns-2 c = published-taken _ _ _ _ _ _ (c .before .registered .given .1)
 
 pub share-published-spec : {M : Type 1} → statement M
 share-published-spec =
@@ -30,5 +27,4 @@ share-published-spec =
     share-nothing-requires
     returns
     cast-number
-    publish-shared-snapshot-reader-requires
     returns-2)
