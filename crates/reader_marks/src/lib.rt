@@ -50,7 +50,8 @@ fn is_wanted(m: SharedReadMark, wanted: Wanted) -> bool
     }
 }
 
-// Whether none of four records is in use.
+// Whether none of four records is in use. The sum is of 64 bits: four counts of 32 bits in damaged memory cannot wrap to 0
+// and hide a record in use.
 fn all_empty(a: SharedReadMark, b: SharedReadMark, c: SharedReadMark, d: SharedReadMark) -> bool
     ensures { λ r. ⌜ r ≡ (is-empty a && is-empty b && is-empty c && is-empty d) ⌝ }
 {
