@@ -73,26 +73,26 @@ owner-beside Writer v = refl
 owner-beside Checkpoint v = refl
 
 pub header-beside : (s : Settings) (o : HeaderOp) → LeavesIndex (on-header s o)
-header-beside s (acquire-op lock owner byte) m p = acquire-stores Beside lock (owner-beside lock) _ _ m p
-header-beside s (unlock-op lock owner) m p = unlock-stores Beside lock (owner-beside lock) _ _ m p
-header-beside s (backfill-op n) m p = backfill-stores Beside (λ v. refl) _ m p
-header-beside s seq-op m p = seq-stores Beside (λ v. refl) m p
-header-beside s epoch-op m p = epoch-stores Beside (λ v. refl) m p
+header-beside s (acquire-op lock owner byte) m p = acquire-stores Beside lock (owner-beside lock) _ _ m _
+header-beside s (unlock-op lock owner) m p = unlock-stores Beside lock (owner-beside lock) _ _ m _
+header-beside s (backfill-op n) m p = backfill-stores Beside (λ v. refl) _ m _
+header-beside s seq-op m p = seq-stores Beside (λ v. refl) m _
+header-beside s epoch-op m p = epoch-stores Beside (λ v. refl) m _
 
 -- those on readers store to the slots' lists alone
 beside-slots : (k : SlotPart) (i v : ℕ) → Beside (to-slots k i v)
 beside-slots k i v = tt
 
 pub probe-beside : (s : Settings) (o : ProbeOp) → LeavesIndex (probe s o)
-probe-beside s (floor-op bytes) m p = floor-stores Beside beside-slots _ _ _ m p
-probe-beside s (limit-op bytes) m p = limit-stores Beside beside-slots _ _ _ m p
-probe-beside s (db-reader-op bytes) m p = db-reader-stores Beside beside-slots _ _ _ m p
+probe-beside s (floor-op bytes) m p = floor-stores Beside beside-slots _ _ _ m _
+probe-beside s (limit-op bytes) m p = limit-stores Beside beside-slots _ _ _ m _
+probe-beside s (db-reader-op bytes) m p = db-reader-stores Beside beside-slots _ _ _ m _
 
 pub slot-beside : (s : Settings) (o : SlotOp) → LeavesIndex (on-slot s o)
-slot-beside s (register-op owner mark bytes) m p = register-stores Beside beside-slots _ _ _ _ _ m p
-slot-beside s (move-op slot owner mark) m p = move-stores Beside beside-slots _ _ _ _ m p
-slot-beside s (release-op slot owner) m p = release-stores Beside beside-slots _ _ _ _ m p
+slot-beside s (register-op owner mark bytes) m p = register-stores Beside beside-slots _ _ _ _ _ m _
+slot-beside s (move-op slot owner mark) m p = move-stores Beside beside-slots _ _ _ _ m _
+slot-beside s (release-op slot owner) m p = release-stores Beside beside-slots _ _ _ _ m _
 
 pub shared-beside : (s : Settings) (o : SharedOp) → LeavesIndex (on-registry s o)
-shared-beside s (share-op owner mark bytes) m p = share-stores Beside beside-slots _ _ _ _ _ m p
-shared-beside s (unshare-op mark slot owner) m p = unshare-stores Beside beside-slots _ _ _ _ _ m p
+shared-beside s (share-op owner mark bytes) m p = share-stores Beside beside-slots _ _ _ _ _ m _
+shared-beside s (unshare-op mark slot owner) m p = unshare-stores Beside beside-slots _ _ _ _ _ m _

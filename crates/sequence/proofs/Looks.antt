@@ -21,5 +21,5 @@ list-looks capacity b low high room-pages room-frames =
 
 -- EACH CALL of the family
 pub only-looks : (s : Settings) (o : LookOp) → Reads (look s o)
-only-looks s (find-op page low high w) m p = find-looks _ _ _ _ _ _ m p
-only-looks s (list-op low high room-pages room-frames) m p = list-looks _ _ _ _ _ _ m p
+only-looks s (find-op page low high w) m p = find-looks _ _ _ _ _ _ m _
+only-looks s (list-op low high room-pages room-frames) m p = list-looks _ _ _ _ _ _ m _

@@ -276,18 +276,18 @@ module _ {M : Type 1} (𝓤 : URA M) (H : Heap 𝓤) (A : Atoms 𝓤) (W : Given
         assigns ! (agg ! (and-then ! (load ! (from ! (stop !)) (look ! 18 refl)) (and-then ! (load ! (from ! (fld ! refl (stop !))) (look-in ! 56 (sub ! 1 refl (whole !)))) (no-more !)))) (from ! (stop !)) (init ! 16 refl (tt, (tt, (record { fits = room-registry .0 }, tt)))) $
         -- the slice of structs is lent again, for a lifetime ν of the call of `retain_shared_snapshot_reader`
         lft-new ! tt (λ ν. move ! (11 ∷ 12 ∷ []) $
-        use2 W (later (some (λ (δ : GName). ‵ (MutSlice (named 0) (ν ∷ []) SharedReadMarkT.the-row .own (at-list δ ys) (seen ∷ [])) ⊛ ‵ (LentAgain SharedReadMarkT.the-row κ4 (ν ∷ []) q4 γ b o δ ys)))) (lends-again SharedReadMarkT.the-row κ4 (ν ∷ []) q4 γ b o 𝓤 H A W (named 4) (named 0) ys) $ await ! tt $ pick ! (λ δ.
+        use2 W (later (some (λ (δ : GName). ‵ (MutSlice (named 0) (ν ∷ []) SharedReadMarkT.the-row .own (at-list δ ys) (seen ∷ [])) ⊛ ‵ (LentAgain SharedReadMarkT.the-row κ4 (ν ∷ []) q4 γ b o δ ys)))) (lends-again SharedReadMarkT.the-row κ4 (ν ∷ []) q4 γ b o 𝓤 H A W (named 4) (named 0) (length ys) ys refl) $ await ! tt $ pick ! (λ δ.
         split ! $ nothing ! $ owned ! usize (Is usize) (uint-makes 𝓤 H A W w64) (t2 .retained) _ (refl, LL.owed ShareStepT.the-type ShareStepL.the-laws t2 _ is2 .0 .1) $ fjoin ! $ move ! (1 ∷ 0 ∷ []) $ fjoin ! $ nothing ! $
         move ! (3 ∷ 0 ∷ []) $ join ! $ use2 W (raw (Meets-retain-shared-snapshot-reader 𝓤 H A mem run .pre (to-retain-shared-snapshot-reader t2 ν δ))) (goes-retain-shared-snapshot-reader t2 ν δ) $
         calls-at ! fm (Meets-retain-shared-snapshot-reader 𝓤 H A mem run) known-retain-shared-snapshot-reader (to-retain-shared-snapshot-reader t2 ν δ) (and-then ! (load ! (from ! (stop !)) (look ! 16 refl)) (and-then ! (load ! (from ! (fld ! refl (stop !))) (look-in ! 42 (sub ! 0 refl (whole !)))) (no-more !))) (λ v3.
         use1 W (later (some (λ (t3 : Unit {0}). ((‵ (flft (ν ∷ []) fullShare) ⊛ ‵ ftrue) ⊛ ‵ (unit .own t3 (v3 ∷ []))) ⊛ raw (ensured 𝓤 H A retain-shared-snapshot-reader-fn.ended (retain-shared-snapshot-reader-fn.clauses 𝓤 H A mem run) ((ν ∷ []), tt) (args-retain-shared-snapshot-reader t2 ν δ) tt t3)))) (id⊢ 𝓤 _) $ await ! tt $ pick ! (λ t3.
         split ! $ move ! (1 ∷ []) $
         use1 W (some (λ (ws3 : List SharedReadMark × (Unit {0} × Unit {0})). ‵ (lasts retain-shared-snapshot-reader-fn.ended ((ν ∷ []), tt) (args-retain-shared-snapshot-reader t2 ν δ) ws3) ⊛ raw (fact 𝓤 (Says-retain-shared-snapshot-reader t2 ν δ t3 (ws3 .0))))) (id⊢ 𝓤 _) $ pick ! (λ ws3.
-        split ! $ move ! (1 ∷ []) $ heard ! (Says-retain-shared-snapshot-reader t2 ν δ t3 (ws3 .0)) (λ e3. fsplit ! $ fsplit ! $ move ! (1 ∷ []) $ feqL ! (λ same-registry. move ! (1 ∷ []) $ drop ! $ move ! (1 ∷ []) $ split ! $
+        split ! $ move ! (1 ∷ []) $ heard ! (Says-retain-shared-snapshot-reader t2 ν δ t3 (ws3 .0)) (λ e3. fsplit ! $ fsplit ! $ move ! (1 ∷ []) $ feqL ! (λ same3. move ! (1 ∷ []) $ drop ! $ move ! (1 ∷ []) $ split ! $
         move ! (1 ∷ []) $ peeks ! unit (Is unit) (shows 𝓤 H A unit) t3 (v3 ∷ []) (λ is3. drop ! $ land ! (from ! (stop !)) (init ! 21 refl (nothing-lawful 𝓤 H A W .typed t3 _ is3 .0)) $ split ! $ move ! (1 ∷ []) $ drop ! $
         -- it comes back changed
         lft-end ! tt $ move ! (0 ∷ 2 ∷ 1 ∷ []) $
-        use3 W (later (‵ (MutSlice (named 4) κ4 SharedReadMarkT.the-row .own (at-list γ (ws3 .0)) (seen ∷ [])) ⊛ ‵ (flft κ4 q4))) (comes-back SharedReadMarkT.the-row κ4 (ν ∷ []) q4 γ b o 𝓤 H A W (named 4) (named 0) ys δ (ws3 .0) room-registry same-registry) $ await ! tt $
+        use3 W (later (‵ (MutSlice (named 4) κ4 SharedReadMarkT.the-row .own (at-list γ (ws3 .0)) (seen ∷ [])) ⊛ ‵ (flft κ4 q4))) (comes-back SharedReadMarkT.the-row κ4 (ν ∷ []) q4 γ b o 𝓤 H A W (named 4) (named 0) (length ys) ys refl δ (ws3 .0) room-registry same3) $ await ! tt $
         split ! $ assigns ! (addr ! (from ! (fld ! refl (hop ! (look-in ! 56 (sub ! 0 refl (whole !))) (stop !))))) (from ! (stop !)) (init ! 14 refl (tt, tt)) $
         assigns ! (agg ! (and-then ! (load ! (from ! (stop !)) (look ! 14 refl)) (and-then ! (load ! (from ! (fld ! refl (stop !))) (look-in ! 56 (sub ! 1 refl (whole !)))) (no-more !)))) (from ! (stop !)) (init ! 12 refl (tt, (tt, (record { fits = room-registry .0 }, tt)))) $
         -- `publish_shared_snapshot_reader`
@@ -313,7 +313,7 @@ module _ {M : Type 1} (𝓤 : URA M) (H : Heap 𝓤) (A : Atoms 𝓤) (W : Given
         move ! (32 ∷ 33 ∷ []) $ free1 ! $ move ! (30 ∷ 31 ∷ []) $ free1 ! $ move ! (28 ∷ 29 ∷ []) $ free1 ! $ move ! (26 ∷ 27 ∷ []) $ free1 ! $ move ! (24 ∷ 25 ∷ []) $ free1 ! $ move ! (22 ∷ 23 ∷ []) $ free1 ! $
         move ! (20 ∷ 21 ∷ []) $ free1 ! $ move ! (18 ∷ 19 ∷ []) $ free1 ! $ move ! (16 ∷ 17 ∷ []) $ free1 ! $ move ! (14 ∷ 15 ∷ []) $ free1 ! $ move ! (12 ∷ 13 ∷ []) $ free1 ! $ free0 ! $ nothing ! $ move ! (3 ∷ 0 ∷ []) $
         join ! $ move ! (1 ∷ 0 ∷ []) $ join ! $ move ! (2 ∷ 0 ∷ []) $ join ! $ move ! (2 ∷ 0 ∷ []) $ join ! $ move ! (2 ∷ 0 ∷ []) $ join ! $ move ! (2 ∷ 0 ∷ []) $ join ! $ keep ! (0 ∷ 5 ∷ 4 ∷ 3 ∷ 2 ∷ 1 ∷ 6 ∷ []) $
-        by ! (exits (t2 .reply) (LL.owed ShareStepT.the-type ShareStepL.the-laws t2 _ is2 .1 .1 .1 .0) (ws2 .1 .1 .0) (ws2 .1 .1 .1 .0) (ws2 .1 .1 .1 .1 .0) (ws2 .1 .1 .1 .1 .1 .0) (ws4 .0) (share-taken _ _ _ _ _ _ _ _ _ _ _ _ _ _ _ _ _ _ ys _ _ e2 e1 e3 e4) long-bitmap long-reader-frames long-reader-owners long-local-readers (long-registry ∙ same-registry))))))))))))))))))))))))))))))))))))))))))))))))))))))))))))))
+        by ! (exits (t2 .reply) (LL.owed ShareStepT.the-type ShareStepL.the-laws t2 _ is2 .1 .1 .1 .0) (ws2 .1 .1 .0) (ws2 .1 .1 .1 .0) (ws2 .1 .1 .1 .1 .0) (ws2 .1 .1 .1 .1 .1 .0) (ws4 .0) (share-taken _ _ _ _ _ _ _ _ _ _ _ _ _ _ _ _ _ _ ys _ _ e2 e1 e3 e4) long-bitmap long-reader-frames long-reader-owners long-local-readers (long-registry ∙ same3))))))))))))))))))))))))))))))))))))))))))))))))))))))))))))))
 
 module _ {M : Type 1} (𝓤 : URA M) (H : Heap 𝓤) (A : Atoms 𝓤) (W : Given 𝓤 H A) (mem : Memory → SProp 𝓤) (run : Routine → Fun 𝓤) where
   entry-walks : (C : Calls 𝓤 H) (Λ : Loops 𝓤 H) → FmC 𝓤 H (W .laws) C → Triple 𝓤 (C #reader-registry·look-through) (Meets-look-through 𝓤 H A mem run) → Triple 𝓤 (C #c-readers·registry-steps·register-reader-for-snapshot) (Meets-register-reader-for-snapshot 𝓤 H A mem run) → Triple 𝓤 (C #reader-registry·retain-shared-snapshot-reader) (Meets-retain-shared-snapshot-reader 𝓤 H A mem run) → Triple 𝓤 (C #reader-registry·publish-shared-snapshot-reader) (Meets-publish-shared-snapshot-reader 𝓤 H A mem run) → Walks 𝓤 H A entry.ended stayed (WpFn 𝓤 H C Λ code.function) (entry.clauses 𝓤 H A mem run)
