@@ -65,6 +65,7 @@ pub extern "C" fn wal_update_reader(
 ) -> ReaderReply
     ensures { λ r. ⌜ MoveReplied reader-reply (update-reader n slot owner mark) (now («reader_frames» .entry)) (now («reader_owners» .entry)) (now (registry .entry)) r (now («reader_frames» .exit)) ⌝ }
 {
+    let offered = SharedOwnerRecord(owner);
     let records = registry.len();
     let in_registry = reader_registry::slot_is_shared(registry, n, slot);
     registry_steps::update_reader(
@@ -72,7 +73,7 @@ pub extern "C" fn wal_update_reader(
         reader_frames,
         reader_owners,
         slot,
-        owner,
+        offered,
         mark,
         in_registry,
         records,
@@ -94,6 +95,7 @@ pub extern "C" fn wal_unregister_reader(
 ) -> u32
     ensures { λ r. ⌜ RegistryReplied refusal-number (with-mode (mode-given mode) (λ given. unregister-reader n given slot owner)) (now (bitmap .entry)) (now («reader_frames» .entry)) (now («reader_owners» .entry)) (now («local_readers» .entry)) (now (registry .entry)) r (now (bitmap .exit)) (now («reader_frames» .exit)) (now («reader_owners» .exit)) (now («local_readers» .exit)) (now (registry .entry)) ⌝ }
 {
+    let offered = SharedOwnerRecord(owner);
     let records = registry.len();
     let in_registry = reader_registry::slot_is_shared(registry, n, slot);
     registry_steps::unregister_reader(
@@ -104,7 +106,7 @@ pub extern "C" fn wal_unregister_reader(
         reader_owners,
         local_readers,
         slot,
-        owner,
+        offered,
         in_registry,
         records,
     )
@@ -199,6 +201,7 @@ pub extern "C" fn wal_unregister_reader_for_snapshot(
 ) -> u32
     ensures { λ r. ⌜ RegistryReplied refusal-number (with-mode (mode-given mode) (λ given. unregister-reader-for-snapshot n given mark slot owner)) (now (bitmap .entry)) (now («reader_frames» .entry)) (now («reader_owners» .entry)) (now («local_readers» .entry)) (now (registry .entry)) r (now (bitmap .exit)) (now («reader_frames» .exit)) (now («reader_owners» .exit)) (now («local_readers» .exit)) (now (registry .exit)) ⌝ }
 {
+    let offered = SharedOwnerRecord(owner);
     let records = registry.len();
     let seen = reader_registry::look_through(registry, n, mark);
     let step = registry_steps::unregister_reader_for_snapshot(
@@ -212,7 +215,7 @@ pub extern "C" fn wal_unregister_reader_for_snapshot(
         seen,
         mark,
         slot,
-        owner,
+        offered,
     );
     reader_registry::release_shared_snapshot_reader(registry, step.released);
     step.refusal

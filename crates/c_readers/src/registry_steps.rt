@@ -23,25 +23,24 @@ pub fn update_reader(
     reader_frames: &mut [u64],
     reader_owners: &[u64],
     slot: usize,
-    owner: u64,
+    owner: SharedOwnerRecord,
     mark: u64,
     in_registry: bool,
     records: usize,
 ) -> ReaderReply
-    ensures { λ r. ⌜ MoveStep reader-reply n slot «in_registry» records (update-reader n slot owner mark) (now («reader_frames» .entry)) (now («reader_owners» .entry)) r (now («reader_frames» .exit)) ⌝ }
+    ensures { λ r. ⌜ MoveStep reader-reply n slot «in_registry» records (update-reader n slot (owner .0) mark) (now («reader_frames» .entry)) (now («reader_owners» .entry)) r (now («reader_frames» .exit)) ⌝ }
 {
-    let offered = SharedOwnerRecord(owner);
     let answer = update::update_core(
         n,
         reader_frames,
         reader_owners,
         slot,
-        offered,
+        owner,
         mark,
         in_registry,
         records,
     );
-    c_reader_replies::move_told(answer, slot, offered, mark)
+    c_reader_replies::move_told(answer, slot, owner, mark)
 }
 
 // in_registry and records as in update_reader. Answers 0, or the number of the refusal.
@@ -53,11 +52,11 @@ pub fn unregister_reader(
     reader_owners: &mut [u64],
     local_readers: &mut [u64],
     slot: usize,
-    owner: u64,
+    owner: SharedOwnerRecord,
     in_registry: bool,
     records: usize,
 ) -> u32
-    ensures { λ r. ⌜ ReleaseStep refusal-number n slot «in_registry» records (with-mode (mode-given mode) (λ given. unregister-reader n given slot owner)) (now (bitmap .entry)) (now («reader_frames» .entry)) (now («reader_owners» .entry)) (now («local_readers» .entry)) r (now (bitmap .exit)) (now («reader_frames» .exit)) (now («reader_owners» .exit)) (now («local_readers» .exit)) ⌝ }
+    ensures { λ r. ⌜ ReleaseStep refusal-number n slot «in_registry» records (with-mode (mode-given mode) (λ given. unregister-reader n given slot (owner .0))) (now (bitmap .entry)) (now («reader_frames» .entry)) (now («reader_owners» .entry)) (now («local_readers» .entry)) r (now (bitmap .exit)) (now («reader_frames» .exit)) (now («reader_owners» .exit)) (now («local_readers» .exit)) ⌝ }
 {
     let Mode::Given(given) = c_numbers::mode_of(mode) else {
         return refusal::SETTINGS;
@@ -70,7 +69,7 @@ pub fn unregister_reader(
         reader_owners,
         local_readers,
         slot,
-        SharedOwnerRecord(owner),
+        owner,
         in_registry,
         records,
     );
@@ -124,9 +123,9 @@ pub fn unregister_reader_for_snapshot(
     seen: Seen,
     mark: u64,
     slot: usize,
-    owner: u64,
+    owner: SharedOwnerRecord,
 ) -> UnshareStep
-    ensures { λ r. ⌜ PlanStep refusal-number n mark seen records (with-mode (mode-given mode) (λ given. unregister-reader-for-snapshot n given mark slot owner)) (now (bitmap .entry)) (now («reader_frames» .entry)) (now («reader_owners» .entry)) (now («local_readers» .entry)) (r .refusal) (now (bitmap .exit)) (now («reader_frames» .exit)) (now («reader_owners» .exit)) (now («local_readers» .exit)) (released (r .released)) ⌝ }
+    ensures { λ r. ⌜ PlanStep refusal-number n mark seen records (with-mode (mode-given mode) (λ given. unregister-reader-for-snapshot n given mark slot (owner .0))) (now (bitmap .entry)) (now («reader_frames» .entry)) (now («reader_owners» .entry)) (now («local_readers» .entry)) (r .refusal) (now (bitmap .exit)) (now («reader_frames» .exit)) (now («reader_owners» .exit)) (now («local_readers» .exit)) (released (r .released)) ⌝ }
 {
     let Mode::Given(given) = c_numbers::mode_of(mode) else {
         return c_reader_replies::unshare_unknown(records);
@@ -142,7 +141,7 @@ pub fn unregister_reader_for_snapshot(
         seen,
         mark,
         slot,
-        SharedOwnerRecord(owner),
+        owner,
     );
     c_reader_replies::unshare_step(plan)
 }

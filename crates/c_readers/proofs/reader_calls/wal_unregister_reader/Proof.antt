@@ -112,6 +112,13 @@ module _ {M : Type 1} (𝓤 : URA M) (H : Heap 𝓤) (A : Atoms 𝓤) (W : Given
       owned ! u64 (Is u64) (uint-makes 𝓤 H A W w64) owner _ (refl, fits-owner) $ fjoin ! $ owned ! usize (Is usize) (uint-makes 𝓤 H A W w64) slot _ (refl, fits-slot) $ fjoin ! $ move ! (5 ∷ 0 ∷ []) $ fjoin ! $ move ! (4 ∷ 0 ∷ []) $ fjoin ! $ move ! (3 ∷ 0 ∷ []) $ fjoin ! $ move ! (2 ∷ 0 ∷ []) $ fjoin ! $ move ! (1 ∷ 0 ∷ []) $ fjoin ! $ owned ! u32 (Is u32) (uint-makes 𝓤 H A W w32) mode _ (refl, fits-mode) $ fjoin ! $ owned ! usize (Is usize) (uint-makes 𝓤 H A W w64) n _ (refl, fits-n) $ fjoin ! $
       frame ! $ owned ! u32 (Is u32) (uint-makes 𝓤 H A W w32) r _ is $ done !
 
+  -- the struct that is made
+  abbrev made-10 : SharedOwnerRecord
+  made-10 = record { 0 = owner }
+
+  is-made-10 : Is SharedOwnerRecordT.the-row made-10 (LL.val SharedOwnerRecordT.the-type SharedOwnerRecordL.the-laws made-10 ∷ [])
+  is-made-10 = LL.owes SharedOwnerRecordT.the-type SharedOwnerRecordL.the-laws made-10 ((refl, fits-owner), tt)
+
   -- `slot_is_shared`: what it is passed, and what it tells
   abbrev args-slot-is-shared : RefT (List SharedReadMark) × (ℕ × (ℕ × Unit {0}))
   args-slot-is-shared = ((at-list γ ys), (n, (slot, tt)))
@@ -129,77 +136,78 @@ module _ {M : Type 1} (𝓤 : URA M) (H : Heap 𝓤) (A : Atoms 𝓤) (W : Given
   Says-slot-is-shared t1 = t1 ≡ in-registry n ys slot
 
   -- `unregister_reader`: what it is passed, and what it tells
-  abbrev args-unregister-reader : Bool → ℕ × (ℕ × (RefT (List ℕ) × (RefT (List ℕ) × (RefT (List ℕ) × (RefT (List ℕ) × (ℕ × (ℕ × (Bool × (ℕ × Unit {0})))))))))
-  args-unregister-reader t1 = (n, (mode, (bitmap, (reader-frames, (reader-owners, (local-readers, (slot, (owner, (t1, ((length ys), tt))))))))))
+  abbrev args-unregister-reader : Bool → ℕ × (ℕ × (RefT (List ℕ) × (RefT (List ℕ) × (RefT (List ℕ) × (RefT (List ℕ) × (ℕ × (SharedOwnerRecord × (Bool × (ℕ × Unit {0})))))))))
+  args-unregister-reader t1 = (n, (mode, (bitmap, (reader-frames, (reader-owners, (local-readers, (slot, (made-10, (t1, ((length ys), tt))))))))))
 
   abbrev vals-unregister-reader : Bool → List Val × (List Val × (List Val × (List Val × (List Val × (List Val × (List Val × (List Val × (List Val × (List Val × Unit {0})))))))))
-  vals-unregister-reader t1 = (vint w64 n ∷ [], (vint w32 mode ∷ [], (slice-vals bitmap, (slice-vals reader-frames, (slice-vals reader-owners, (slice-vals local-readers, (vint w64 slot ∷ [], (vint w64 owner ∷ [], (vbool t1 ∷ [], (vint w64 (length ys) ∷ [], tt))))))))))
+  vals-unregister-reader t1 = (vint w64 n ∷ [], (vint w32 mode ∷ [], (slice-vals bitmap, (slice-vals reader-frames, (slice-vals reader-owners, (slice-vals local-readers, (vint w64 slot ∷ [], (LL.val SharedOwnerRecordT.the-type SharedOwnerRecordL.the-laws made-10 ∷ [], (vbool t1 ∷ [], (vint w64 (length ys) ∷ [], tt))))))))))
 
   abbrev to-unregister-reader : Bool → Meets-unregister-reader 𝓤 H A mem run .Ghost
   to-unregister-reader t1 = (((κ0, (κ1, (κ2, (κ3, tt)))), (q0, (q1, (q2, (q3, tt)))), tt, args-unregister-reader t1, vals-unregister-reader t1), tt)
 
-  goes-unregister-reader : (t1 : Bool) → ent 𝓤 (⋆ 𝓤 H A ((‵ (flft κ0 q0) ⊛ ‵ (flft κ1 q1) ⊛ ‵ (flft κ2 q2) ⊛ ‵ (flft κ3 q3) ⊛ ‵ ftrue) ∷ ‵ (owns (usize ∷ u32 ∷ MutSlice (named 0) κ0 u64 ∷ MutSlice (named 1) κ1 u64 ∷ MutSlice (named 2) κ2 u64 ∷ MutSlice (named 3) κ3 u64 ∷ usize ∷ u64 ∷ bool ∷ usize ∷ []) (args-unregister-reader t1) (vals-unregister-reader t1)) ∷ [])) (Meets-unregister-reader 𝓤 H A mem run .pre (to-unregister-reader t1))
-  goes-unregister-reader t1 = qed W ((‵ (flft κ0 q0) ⊛ ‵ (flft κ1 q1) ⊛ ‵ (flft κ2 q2) ⊛ ‵ (flft κ3 q3) ⊛ ‵ ftrue) ∷ ‵ (owns (usize ∷ u32 ∷ MutSlice (named 0) κ0 u64 ∷ MutSlice (named 1) κ1 u64 ∷ MutSlice (named 2) κ2 u64 ∷ MutSlice (named 3) κ3 u64 ∷ usize ∷ u64 ∷ bool ∷ usize ∷ []) (args-unregister-reader t1) (vals-unregister-reader t1)) ∷ []) ∵ join ! $ frame ! $ done !
+  goes-unregister-reader : (t1 : Bool) → ent 𝓤 (⋆ 𝓤 H A ((‵ (flft κ0 q0) ⊛ ‵ (flft κ1 q1) ⊛ ‵ (flft κ2 q2) ⊛ ‵ (flft κ3 q3) ⊛ ‵ ftrue) ∷ ‵ (owns (usize ∷ u32 ∷ MutSlice (named 0) κ0 u64 ∷ MutSlice (named 1) κ1 u64 ∷ MutSlice (named 2) κ2 u64 ∷ MutSlice (named 3) κ3 u64 ∷ usize ∷ SharedOwnerRecordT.the-row ∷ bool ∷ usize ∷ []) (args-unregister-reader t1) (vals-unregister-reader t1)) ∷ [])) (Meets-unregister-reader 𝓤 H A mem run .pre (to-unregister-reader t1))
+  goes-unregister-reader t1 = qed W ((‵ (flft κ0 q0) ⊛ ‵ (flft κ1 q1) ⊛ ‵ (flft κ2 q2) ⊛ ‵ (flft κ3 q3) ⊛ ‵ ftrue) ∷ ‵ (owns (usize ∷ u32 ∷ MutSlice (named 0) κ0 u64 ∷ MutSlice (named 1) κ1 u64 ∷ MutSlice (named 2) κ2 u64 ∷ MutSlice (named 3) κ3 u64 ∷ usize ∷ SharedOwnerRecordT.the-row ∷ bool ∷ usize ∷ []) (args-unregister-reader t1) (vals-unregister-reader t1)) ∷ []) ∵ join ! $ frame ! $ done !
 
   abbrev Says-unregister-reader : Bool → ℕ → List ℕ → List ℕ → List ℕ → List ℕ → Type 0
-  Says-unregister-reader t1 t2 w-bitmap w-reader-frames w-reader-owners w-local-readers = ReleaseStep refusal-number n slot t1 (length ys) (with-mode (mode-given mode) (λ given. unregister-reader n given slot owner)) (bitmap .now) (reader-frames .now) (reader-owners .now) (local-readers .now) t2 w-bitmap w-reader-frames w-reader-owners w-local-readers
+  Says-unregister-reader t1 t2 w-bitmap w-reader-frames w-reader-owners w-local-readers = ReleaseStep refusal-number n slot t1 (length ys) (with-mode (mode-given mode) (λ given. unregister-reader n given slot (made-10 .0))) (bitmap .now) (reader-frames .now) (reader-owners .now) (local-readers .now) t2 w-bitmap w-reader-frames w-reader-owners w-local-readers
 
   module _ (C : Calls 𝓤 H) (Λ : Loops 𝓤 H) (fm : FmC 𝓤 H (W .laws) C) (known-slot-is-shared : Triple 𝓤 (C #reader-registry·slot-is-shared) (Meets-slot-is-shared 𝓤 H A mem run)) (known-unregister-reader : Triple 𝓤 (C #c-readers·registry-steps·unregister-reader) (Meets-unregister-reader 𝓤 H A mem run)) where
     walk : ent 𝓤 (onEntry 𝓤 H A entry.signature (κ0, (κ1, (κ2, (κ3, (κ4, tt))))) (q0, (q1, (q2, (q3, (q4, tt))))) passed at) (WpFn 𝓤 H C Λ code.function flat Post)
     walk =
         qed W ((‵ (flft κ0 q0) ⊛ ‵ (flft κ1 q1) ⊛ ‵ (flft κ2 q2) ⊛ ‵ (flft κ3 q3) ⊛ ‵ (flft κ4 q4) ⊛ ‵ ftrue) ∷ ‵ (owns (usize ∷ u32 ∷ MutSlice (named 0) κ0 u64 ∷ MutSlice (named 1) κ1 u64 ∷ MutSlice (named 2) κ2 u64 ∷ MutSlice (named 3) κ3 u64 ∷ ShrSlice (named 4) κ4 SharedReadMarkT.the-row ∷ usize ∷ u64 ∷ []) passed at) ∷ []) ∵ enter ! C Λ code.function flat _ $
         alloc1 ! (λ l₀. alloc1 ! (λ l₁. alloc1 ! (λ l₂. alloc1 ! (λ l₃. alloc1 ! (λ l₄. alloc1 ! (λ l₅. alloc1 ! (λ l₆. alloc1 ! (λ l₇. alloc1 ! (λ l₈. alloc1 ! (λ l₉. alloc1 ! (λ l₁₀. alloc1 ! (λ l₁₁. alloc1 ! (λ l₁₂.
-        alloc1 ! (λ l₁₃. alloc1 ! (λ l₁₄. alloc1 ! (λ l₁₅. alloc1 ! (λ l₁₆. alloc1 ! (λ l₁₇. alloc1 ! (λ l₁₈. alloc1 ! (λ l₁₉. alloc0 ! $ params1 ! $ pass1 ! (init ! 36 refl (tt, record { fits = fits-n })) $
-        pass1 ! (init ! 34 refl (tt, record { fits = fits-mode })) $ pass1 ! (init ! 32 refl (tt, (tt, (record { fits = room-bitmap .0 }, tt)))) $
-        pass1 ! (init ! 30 refl (tt, (tt, (record { fits = room-reader-frames .0 }, tt)))) $ pass1 ! (init ! 28 refl (tt, (tt, (record { fits = room-reader-owners .0 }, tt)))) $
-        pass1 ! (init ! 26 refl (tt, (tt, (record { fits = room-local-readers .0 }, tt)))) $ pass1 ! (init ! 24 refl (tt, (tt, (record { fits = room-registry .0 }, tt)))) $
-        pass1 ! (init ! 22 refl (tt, record { fits = fits-slot })) $ pass1 ! (init ! 20 refl (tt, record { fits = fits-owner })) $ pass0 ! $ move ! (41 ∷ []) $ fsplit ! $ drop ! $ fsplit ! $ drop ! $ fsplit ! $ move ! (1 ∷ []) $
-        fsplit ! $ move ! (1 ∷ []) $ fsplit ! $ move ! (1 ∷ []) $ fsplit ! $ move ! (1 ∷ []) $ fsplit ! $ move ! (1 ∷ []) $ fsplit ! $ drop ! $ fsplit ! $ drop ! $ drop ! $ move ! (45 ∷ []) $ split ! $ move ! (1 ∷ []) $
+        alloc1 ! (λ l₁₃. alloc1 ! (λ l₁₄. alloc1 ! (λ l₁₅. alloc1 ! (λ l₁₆. alloc1 ! (λ l₁₇. alloc1 ! (λ l₁₈. alloc1 ! (λ l₁₉. alloc1 ! (λ l₂₀. alloc0 ! $ params1 ! $ pass1 ! (init ! 38 refl (tt, record { fits = fits-n })) $
+        pass1 ! (init ! 36 refl (tt, record { fits = fits-mode })) $ pass1 ! (init ! 34 refl (tt, (tt, (record { fits = room-bitmap .0 }, tt)))) $
+        pass1 ! (init ! 32 refl (tt, (tt, (record { fits = room-reader-frames .0 }, tt)))) $ pass1 ! (init ! 30 refl (tt, (tt, (record { fits = room-reader-owners .0 }, tt)))) $
+        pass1 ! (init ! 28 refl (tt, (tt, (record { fits = room-local-readers .0 }, tt)))) $ pass1 ! (init ! 26 refl (tt, (tt, (record { fits = room-registry .0 }, tt)))) $
+        pass1 ! (init ! 24 refl (tt, record { fits = fits-slot })) $ pass1 ! (init ! 22 refl (tt, record { fits = fits-owner })) $ pass0 ! $ move ! (43 ∷ []) $ fsplit ! $ drop ! $ fsplit ! $ drop ! $ fsplit ! $ move ! (1 ∷ []) $
+        fsplit ! $ move ! (1 ∷ []) $ fsplit ! $ move ! (1 ∷ []) $ fsplit ! $ move ! (1 ∷ []) $ fsplit ! $ move ! (1 ∷ []) $ fsplit ! $ drop ! $ fsplit ! $ drop ! $ drop ! $ move ! (47 ∷ []) $ split ! $ move ! (1 ∷ []) $
         split ! $ move ! (1 ∷ []) $ split ! $ move ! (1 ∷ []) $ split ! $ move ! (1 ∷ []) $ split ! $ move ! (1 ∷ []) $ drop ! $
-        assigns ! (of-opd ! (load ! (from ! (fld ! refl (stop !))) (look-in ! 34 (sub ! 1 refl (whole !))))) (from ! (stop !)) (init ! 28 refl (tt, record { fits = room-registry .0 })) $
+        assigns ! (agg ! (and-then ! (load ! (from ! (stop !)) (look ! 32 refl)) (no-more !))) (from ! (stop !)) (init ! 30 refl (LL.lawful SharedOwnerRecordT.the-type SharedOwnerRecordL.the-laws 𝓤 H A W .typed made-10 _ is-made-10 .0)) $
+        assigns ! (of-opd ! (load ! (from ! (fld ! refl (stop !))) (look-in ! 36 (sub ! 1 refl (whole !))))) (from ! (stop !)) (init ! 28 refl (tt, record { fits = room-registry .0 })) $
         -- `slot_is_shared`
         move ! (5 ∷ []) $
         use1 W (‵ (ShrSlice (named 4) κ4 SharedReadMarkT.the-row .own (at-list γ ys) (seen ∷ [])) ⊛ ‵ (ShrSlice (named 4) κ4 SharedReadMarkT.the-row .own (at-list γ ys) (seen ∷ []))) (shr-slice-copy 𝓤 H A W (named 4) κ4 SharedReadMarkT.the-row .twice (at-list γ ys) (seen ∷ [])) $
         split ! $ nothing ! $ owned ! usize (Is usize) (uint-makes 𝓤 H A W w64) slot _ (refl, fits-slot) $ fjoin ! $ owned ! usize (Is usize) (uint-makes 𝓤 H A W w64) n _ (refl, fits-n) $ fjoin ! $ move ! (1 ∷ 0 ∷ []) $
         fjoin ! $ nothing ! $ move ! (3 ∷ 0 ∷ []) $ join ! $ use2 W (raw (Meets-slot-is-shared 𝓤 H A mem run .pre to-slot-is-shared)) goes-slot-is-shared $
-        calls-at ! fm (Meets-slot-is-shared 𝓤 H A mem run) known-slot-is-shared to-slot-is-shared (and-then ! (load ! (from ! (stop !)) (look ! 34 refl)) (and-then ! (load ! (from ! (stop !)) (look ! 46 refl)) (and-then ! (load ! (from ! (stop !)) (look ! 32 refl)) (no-more !)))) (λ v1.
+        calls-at ! fm (Meets-slot-is-shared 𝓤 H A mem run) known-slot-is-shared to-slot-is-shared (and-then ! (load ! (from ! (stop !)) (look ! 36 refl)) (and-then ! (load ! (from ! (stop !)) (look ! 48 refl)) (and-then ! (load ! (from ! (stop !)) (look ! 34 refl)) (no-more !)))) (λ v1.
         use1 W (later (some (λ (t1 : Bool). ((‵ (flft κ4 q4) ⊛ ‵ ftrue) ⊛ ‵ (bool .own t1 (v1 ∷ []))) ⊛ raw (ensured 𝓤 H A slot-is-shared-fn.ended (slot-is-shared-fn.clauses 𝓤 H A mem run) (κ4, tt) (args-slot-is-shared) tt t1)))) (id⊢ 𝓤 _) $ await ! tt $ pick ! (λ t1.
         split ! $ move ! (1 ∷ []) $
         use1 W (some (λ (ws1 : Unit {0} × (Unit {0} × (Unit {0} × Unit {0}))). ‵ (lasts slot-is-shared-fn.ended (κ4, tt) (args-slot-is-shared) ws1) ⊛ raw (fact 𝓤 (Says-slot-is-shared t1)))) (id⊢ 𝓤 _) $ pick ! (λ ws1. split ! $
         move ! (1 ∷ []) $ heard ! (Says-slot-is-shared t1) (λ e1. drop ! $ split ! $ move ! (1 ∷ []) $ peeks ! bool (Is bool) (shows 𝓤 H A bool) t1 (v1 ∷ []) (λ is1. drop ! $
-        land ! (from ! (stop !)) (init ! 26 refl (bool-lawful 𝓤 H A W .typed t1 _ is1 .0)) $ rewrite ! 26 (λ (u : Val). ‵ (fat fullShare tyBool l₁₁ 0 u)) (ap only (bool-tells t1 (v1 ∷ []) is1)) refl $ split ! $ move ! (1 ∷ []) $
-        drop ! $ assigns ! (addr ! (from ! (fld ! refl (hop ! (look-in ! 42 (sub ! 0 refl (whole !))) (stop !))))) (from ! (stop !)) (init ! 24 refl (tt, tt)) $
-        assigns ! (agg ! (and-then ! (load ! (from ! (stop !)) (look ! 24 refl)) (and-then ! (load ! (from ! (fld ! refl (stop !))) (look-in ! 42 (sub ! 1 refl (whole !)))) (no-more !)))) (from ! (stop !)) (init ! 22 refl (tt, (tt, (record { fits = room-bitmap .0 }, tt)))) $
-        assigns ! (addr ! (from ! (fld ! refl (hop ! (look-in ! 40 (sub ! 0 refl (whole !))) (stop !))))) (from ! (stop !)) (init ! 20 refl (tt, tt)) $
-        assigns ! (agg ! (and-then ! (load ! (from ! (stop !)) (look ! 20 refl)) (and-then ! (load ! (from ! (fld ! refl (stop !))) (look-in ! 40 (sub ! 1 refl (whole !)))) (no-more !)))) (from ! (stop !)) (init ! 18 refl (tt, (tt, (record { fits = room-reader-frames .0 }, tt)))) $
-        assigns ! (addr ! (from ! (fld ! refl (hop ! (look-in ! 38 (sub ! 0 refl (whole !))) (stop !))))) (from ! (stop !)) (init ! 16 refl (tt, tt)) $
-        assigns ! (agg ! (and-then ! (load ! (from ! (stop !)) (look ! 16 refl)) (and-then ! (load ! (from ! (fld ! refl (stop !))) (look-in ! 38 (sub ! 1 refl (whole !)))) (no-more !)))) (from ! (stop !)) (init ! 14 refl (tt, (tt, (record { fits = room-reader-owners .0 }, tt)))) $
-        assigns ! (addr ! (from ! (fld ! refl (hop ! (look-in ! 36 (sub ! 0 refl (whole !))) (stop !))))) (from ! (stop !)) (init ! 12 refl (tt, tt)) $
-        assigns ! (agg ! (and-then ! (load ! (from ! (stop !)) (look ! 12 refl)) (and-then ! (load ! (from ! (fld ! refl (stop !))) (look-in ! 36 (sub ! 1 refl (whole !)))) (no-more !)))) (from ! (stop !)) (init ! 10 refl (tt, (tt, (record { fits = room-local-readers .0 }, tt)))) $
+        land ! (from ! (stop !)) (init ! 26 refl (bool-lawful 𝓤 H A W .typed t1 _ is1 .0)) $ rewrite ! 26 (λ (u : Val). ‵ (fat fullShare tyBool l₁₂ 0 u)) (ap only (bool-tells t1 (v1 ∷ []) is1)) refl $ split ! $ move ! (1 ∷ []) $
+        drop ! $ assigns ! (addr ! (from ! (fld ! refl (hop ! (look-in ! 44 (sub ! 0 refl (whole !))) (stop !))))) (from ! (stop !)) (init ! 24 refl (tt, tt)) $
+        assigns ! (agg ! (and-then ! (load ! (from ! (stop !)) (look ! 24 refl)) (and-then ! (load ! (from ! (fld ! refl (stop !))) (look-in ! 44 (sub ! 1 refl (whole !)))) (no-more !)))) (from ! (stop !)) (init ! 22 refl (tt, (tt, (record { fits = room-bitmap .0 }, tt)))) $
+        assigns ! (addr ! (from ! (fld ! refl (hop ! (look-in ! 42 (sub ! 0 refl (whole !))) (stop !))))) (from ! (stop !)) (init ! 20 refl (tt, tt)) $
+        assigns ! (agg ! (and-then ! (load ! (from ! (stop !)) (look ! 20 refl)) (and-then ! (load ! (from ! (fld ! refl (stop !))) (look-in ! 42 (sub ! 1 refl (whole !)))) (no-more !)))) (from ! (stop !)) (init ! 18 refl (tt, (tt, (record { fits = room-reader-frames .0 }, tt)))) $
+        assigns ! (addr ! (from ! (fld ! refl (hop ! (look-in ! 40 (sub ! 0 refl (whole !))) (stop !))))) (from ! (stop !)) (init ! 16 refl (tt, tt)) $
+        assigns ! (agg ! (and-then ! (load ! (from ! (stop !)) (look ! 16 refl)) (and-then ! (load ! (from ! (fld ! refl (stop !))) (look-in ! 40 (sub ! 1 refl (whole !)))) (no-more !)))) (from ! (stop !)) (init ! 14 refl (tt, (tt, (record { fits = room-reader-owners .0 }, tt)))) $
+        assigns ! (addr ! (from ! (fld ! refl (hop ! (look-in ! 38 (sub ! 0 refl (whole !))) (stop !))))) (from ! (stop !)) (init ! 12 refl (tt, tt)) $
+        assigns ! (agg ! (and-then ! (load ! (from ! (stop !)) (look ! 12 refl)) (and-then ! (load ! (from ! (fld ! refl (stop !))) (look-in ! 38 (sub ! 1 refl (whole !)))) (no-more !)))) (from ! (stop !)) (init ! 10 refl (tt, (tt, (record { fits = room-local-readers .0 }, tt)))) $
         -- `unregister_reader`
         nothing ! $ owned ! usize (Is usize) (uint-makes 𝓤 H A W w64) (length ys) _ (refl, room-registry .0) $ fjoin ! $ owned ! bool (Is bool) (bool-makes 𝓤 H A W) t1 _ refl $ fjoin ! $
-        owned ! u64 (Is u64) (uint-makes 𝓤 H A W w64) owner _ (refl, fits-owner) $ fjoin ! $ owned ! usize (Is usize) (uint-makes 𝓤 H A W w64) slot _ (refl, fits-slot) $ fjoin ! $ move ! (7 ∷ 0 ∷ []) $ fjoin ! $
-        move ! (7 ∷ 0 ∷ []) $ fjoin ! $ move ! (7 ∷ 0 ∷ []) $ fjoin ! $ move ! (7 ∷ 0 ∷ []) $ fjoin ! $ owned ! u32 (Is u32) (uint-makes 𝓤 H A W w32) mode _ (refl, fits-mode) $ fjoin ! $
-        owned ! usize (Is usize) (uint-makes 𝓤 H A W w64) n _ (refl, fits-n) $ fjoin ! $ nothing ! $ move ! (4 ∷ 0 ∷ []) $ join ! $ move ! (4 ∷ 0 ∷ []) $ join ! $ move ! (4 ∷ 0 ∷ []) $ join ! $ move ! (4 ∷ 0 ∷ []) $ join ! $
-        use2 W (raw (Meets-unregister-reader 𝓤 H A mem run .pre (to-unregister-reader t1))) (goes-unregister-reader t1) $
-        calls-at ! fm (Meets-unregister-reader 𝓤 H A mem run) known-unregister-reader (to-unregister-reader t1) (and-then ! (load ! (from ! (stop !)) (look ! 39 refl)) (and-then ! (load ! (from ! (stop !)) (look ! 37 refl)) (and-then ! (load ! (from ! (stop !)) (look ! 15 refl)) (and-then ! (load ! (from ! (stop !)) (look ! 11 refl)) (and-then ! (load ! (from ! (stop !)) (look ! 7 refl)) (and-then ! (load ! (from ! (stop !)) (look ! 3 refl)) (and-then ! (load ! (from ! (stop !)) (look ! 25 refl)) (and-then ! (load ! (from ! (stop !)) (look ! 23 refl)) (and-then ! (load ! (from ! (stop !)) (look ! 19 refl)) (and-then ! (load ! (from ! (stop !)) (look ! 21 refl)) (no-more !))))))))))) (λ v2.
+        owned ! SharedOwnerRecordT.the-row (Is SharedOwnerRecordT.the-row) (LL.makes SharedOwnerRecordT.the-type SharedOwnerRecordL.the-plain 𝓤 H A) made-10 _ is-made-10 $ fjoin ! $
+        owned ! usize (Is usize) (uint-makes 𝓤 H A W w64) slot _ (refl, fits-slot) $ fjoin ! $ move ! (7 ∷ 0 ∷ []) $ fjoin ! $ move ! (7 ∷ 0 ∷ []) $ fjoin ! $ move ! (7 ∷ 0 ∷ []) $ fjoin ! $ move ! (7 ∷ 0 ∷ []) $ fjoin ! $
+        owned ! u32 (Is u32) (uint-makes 𝓤 H A W w32) mode _ (refl, fits-mode) $ fjoin ! $ owned ! usize (Is usize) (uint-makes 𝓤 H A W w64) n _ (refl, fits-n) $ fjoin ! $ nothing ! $ move ! (4 ∷ 0 ∷ []) $ join ! $
+        move ! (4 ∷ 0 ∷ []) $ join ! $ move ! (4 ∷ 0 ∷ []) $ join ! $ move ! (4 ∷ 0 ∷ []) $ join ! $ use2 W (raw (Meets-unregister-reader 𝓤 H A mem run .pre (to-unregister-reader t1))) (goes-unregister-reader t1) $
+        calls-at ! fm (Meets-unregister-reader 𝓤 H A mem run) known-unregister-reader (to-unregister-reader t1) (and-then ! (load ! (from ! (stop !)) (look ! 41 refl)) (and-then ! (load ! (from ! (stop !)) (look ! 39 refl)) (and-then ! (load ! (from ! (stop !)) (look ! 15 refl)) (and-then ! (load ! (from ! (stop !)) (look ! 11 refl)) (and-then ! (load ! (from ! (stop !)) (look ! 7 refl)) (and-then ! (load ! (from ! (stop !)) (look ! 3 refl)) (and-then ! (load ! (from ! (stop !)) (look ! 27 refl)) (and-then ! (load ! (from ! (stop !)) (look ! 23 refl)) (and-then ! (load ! (from ! (stop !)) (look ! 19 refl)) (and-then ! (load ! (from ! (stop !)) (look ! 21 refl)) (no-more !))))))))))) (λ v2.
         use1 W (later (some (λ (t2 : ℕ). ((‵ (flft κ0 q0) ⊛ ‵ (flft κ1 q1) ⊛ ‵ (flft κ2 q2) ⊛ ‵ (flft κ3 q3) ⊛ ‵ ftrue) ⊛ ‵ (u32 .own t2 (v2 ∷ []))) ⊛ raw (ensured 𝓤 H A unregister-reader-fn.ended (unregister-reader-fn.clauses 𝓤 H A mem run) (κ0, (κ1, (κ2, (κ3, tt)))) (args-unregister-reader t1) tt t2)))) (id⊢ 𝓤 _) $ await ! tt $ pick ! (λ t2.
         split ! $ move ! (1 ∷ []) $
         use1 W (some (λ (ws2 : Unit {0} × (Unit {0} × (List ℕ × (List ℕ × (List ℕ × (List ℕ × (Unit {0} × (Unit {0} × (Unit {0} × (Unit {0} × Unit {0})))))))))). ‵ (lasts unregister-reader-fn.ended (κ0, (κ1, (κ2, (κ3, tt)))) (args-unregister-reader t1) ws2) ⊛ raw (fact 𝓤 (Says-unregister-reader t1 t2 (ws2 .1 .1 .0) (ws2 .1 .1 .1 .0) (ws2 .1 .1 .1 .1 .0) (ws2 .1 .1 .1 .1 .1 .0))))) (id⊢ 𝓤 _) $ pick ! (λ ws2.
         split ! $ move ! (1 ∷ []) $ heard ! (Says-unregister-reader t1 t2 (ws2 .1 .1 .0) (ws2 .1 .1 .1 .0) (ws2 .1 .1 .1 .1 .0) (ws2 .1 .1 .1 .1 .1 .0)) (λ e2. fsplit ! $ drop ! $ fsplit ! $ drop ! $ fsplit ! $ fsplit ! $
         move ! (1 ∷ []) $ feqL ! (λ long-bitmap. move ! (1 ∷ []) $ fsplit ! $ fsplit ! $ move ! (1 ∷ []) $ feqL ! (λ long-reader-frames. move ! (1 ∷ []) $ fsplit ! $ fsplit ! $ move ! (1 ∷ []) $ feqL ! (λ long-reader-owners.
         move ! (1 ∷ []) $ fsplit ! $ fsplit ! $ move ! (1 ∷ []) $ feqL ! (λ long-local-readers. move ! (1 ∷ []) $ drop ! $ move ! (4 ∷ []) $ split ! $ move ! (1 ∷ []) $ peeks ! u32 (Is u32) (shows 𝓤 H A u32) t2 (v2 ∷ []) (λ is2.
-        drop ! $ land ! (from ! (stop !)) (init ! 45 refl (uint-lawful 𝓤 H A W w32 .typed t2 _ is2 .0)) $ rewrite ! 45 (λ (u : Val). ‵ (fat fullShare (tyInt w32) l₀ 0 u)) (ap only (uint-tells w32 t2 (v2 ∷ []) is2)) refl $
+        drop ! $ land ! (from ! (stop !)) (init ! 47 refl (uint-lawful 𝓤 H A W w32 .typed t2 _ is2 .0)) $ rewrite ! 47 (λ (u : Val). ‵ (fat fullShare (tyInt w32) l₀ 0 u)) (ap only (uint-tells w32 t2 (v2 ∷ []) is2)) refl $
         split ! $ move ! (1 ∷ []) $ split ! $ move ! (1 ∷ []) $ split ! $ move ! (1 ∷ []) $ split ! $ move ! (1 ∷ []) $ drop ! $
         -- the end
-        returns ! (look ! 48 refl) $ forget ! 10 refl $ forget ! 12 refl $ forget ! 14 refl $ forget ! 16 refl $ forget ! 18 refl $ forget ! 20 refl $ forget ! 22 refl $ forget ! 24 refl $ forget ! 26 refl $ forget ! 28 refl $
-        forget ! 30 refl $ forget ! 32 refl $ forget ! 34 refl $ forget ! 36 refl $ forget ! 38 refl $ forget ! 40 refl $ forget ! 42 refl $ forget ! 44 refl $ forget ! 46 refl $ forget ! 48 refl $ move ! (48 ∷ 49 ∷ []) $
-        free1 ! $ move ! (46 ∷ 47 ∷ []) $ free1 ! $ move ! (44 ∷ 45 ∷ []) $ free1 ! $ move ! (42 ∷ 43 ∷ []) $ free1 ! $ move ! (40 ∷ 41 ∷ []) $ free1 ! $ move ! (38 ∷ 39 ∷ []) $ free1 ! $ move ! (36 ∷ 37 ∷ []) $ free1 ! $
-        move ! (34 ∷ 35 ∷ []) $ free1 ! $ move ! (32 ∷ 33 ∷ []) $ free1 ! $ move ! (30 ∷ 31 ∷ []) $ free1 ! $ move ! (28 ∷ 29 ∷ []) $ free1 ! $ move ! (26 ∷ 27 ∷ []) $ free1 ! $ move ! (24 ∷ 25 ∷ []) $ free1 ! $
-        move ! (22 ∷ 23 ∷ []) $ free1 ! $ move ! (20 ∷ 21 ∷ []) $ free1 ! $ move ! (18 ∷ 19 ∷ []) $ free1 ! $ move ! (16 ∷ 17 ∷ []) $ free1 ! $ move ! (14 ∷ 15 ∷ []) $ free1 ! $ move ! (12 ∷ 13 ∷ []) $ free1 ! $
-        move ! (10 ∷ 11 ∷ []) $ free1 ! $ free0 ! $ nothing ! $ move ! (9 ∷ 0 ∷ []) $ join ! $ move ! (1 ∷ 0 ∷ []) $ join ! $ move ! (1 ∷ 0 ∷ []) $ join ! $ move ! (1 ∷ 0 ∷ []) $ join ! $ move ! (1 ∷ 0 ∷ []) $ join ! $
-        keep ! (0 ∷ 4 ∷ 3 ∷ 2 ∷ 1 ∷ 5 ∷ []) $
-        by ! (exits t2 (subst (Is u32 t2) (uint-tells w32 t2 (v2 ∷ []) is2) is2) (ws2 .1 .1 .0) (ws2 .1 .1 .1 .0) (ws2 .1 .1 .1 .1 .0) (ws2 .1 .1 .1 .1 .1 .0) (release-taken _ _ _ _ _ _ _ _ _ _ _ _ _ _ _ e2 e1) long-bitmap long-reader-frames long-reader-owners long-local-readers)))))))))))))))))))))))))))))))))))
+        returns ! (look ! 50 refl) $ forget ! 10 refl $ forget ! 12 refl $ forget ! 14 refl $ forget ! 16 refl $ forget ! 18 refl $ forget ! 20 refl $ forget ! 22 refl $ forget ! 24 refl $ forget ! 26 refl $ forget ! 28 refl $
+        forget ! 30 refl $ forget ! 32 refl $ forget ! 34 refl $ forget ! 36 refl $ forget ! 38 refl $ forget ! 40 refl $ forget ! 42 refl $ forget ! 44 refl $ forget ! 46 refl $ forget ! 48 refl $ forget ! 50 refl $
+        move ! (50 ∷ 51 ∷ []) $ free1 ! $ move ! (48 ∷ 49 ∷ []) $ free1 ! $ move ! (46 ∷ 47 ∷ []) $ free1 ! $ move ! (44 ∷ 45 ∷ []) $ free1 ! $ move ! (42 ∷ 43 ∷ []) $ free1 ! $ move ! (40 ∷ 41 ∷ []) $ free1 ! $
+        move ! (38 ∷ 39 ∷ []) $ free1 ! $ move ! (36 ∷ 37 ∷ []) $ free1 ! $ move ! (34 ∷ 35 ∷ []) $ free1 ! $ move ! (32 ∷ 33 ∷ []) $ free1 ! $ move ! (30 ∷ 31 ∷ []) $ free1 ! $ move ! (28 ∷ 29 ∷ []) $ free1 ! $
+        move ! (26 ∷ 27 ∷ []) $ free1 ! $ move ! (24 ∷ 25 ∷ []) $ free1 ! $ move ! (22 ∷ 23 ∷ []) $ free1 ! $ move ! (20 ∷ 21 ∷ []) $ free1 ! $ move ! (18 ∷ 19 ∷ []) $ free1 ! $ move ! (16 ∷ 17 ∷ []) $ free1 ! $
+        move ! (14 ∷ 15 ∷ []) $ free1 ! $ move ! (12 ∷ 13 ∷ []) $ free1 ! $ move ! (10 ∷ 11 ∷ []) $ free1 ! $ free0 ! $ nothing ! $ move ! (9 ∷ 0 ∷ []) $ join ! $ move ! (1 ∷ 0 ∷ []) $ join ! $ move ! (1 ∷ 0 ∷ []) $ join ! $
+        move ! (1 ∷ 0 ∷ []) $ join ! $ move ! (1 ∷ 0 ∷ []) $ join ! $ keep ! (0 ∷ 4 ∷ 3 ∷ 2 ∷ 1 ∷ 5 ∷ []) $
+        by ! (exits t2 (subst (Is u32 t2) (uint-tells w32 t2 (v2 ∷ []) is2) is2) (ws2 .1 .1 .0) (ws2 .1 .1 .1 .0) (ws2 .1 .1 .1 .1 .0) (ws2 .1 .1 .1 .1 .1 .0) (release-taken _ _ _ _ _ _ _ _ _ _ _ _ _ _ _ e2 e1) long-bitmap long-reader-frames long-reader-owners long-local-readers))))))))))))))))))))))))))))))))))))
 
 module _ {M : Type 1} (𝓤 : URA M) (H : Heap 𝓤) (A : Atoms 𝓤) (W : Given 𝓤 H A) (mem : Memory → SProp 𝓤) (run : Routine → Fun 𝓤) where
   entry-walks : (C : Calls 𝓤 H) (Λ : Loops 𝓤 H) → FmC 𝓤 H (W .laws) C → Triple 𝓤 (C #reader-registry·slot-is-shared) (Meets-slot-is-shared 𝓤 H A mem run) → Triple 𝓤 (C #c-readers·registry-steps·unregister-reader) (Meets-unregister-reader 𝓤 H A mem run) → Walks 𝓤 H A entry.ended stayed (WpFn 𝓤 H C Λ code.function) (entry.clauses 𝓤 H A mem run)

@@ -129,6 +129,13 @@ module _ {M : Type 1} (𝓤 : URA M) (H : Heap 𝓤) (A : Atoms 𝓤) (W : Given
       owned ! u64 (Is u64) (uint-makes 𝓤 H A W w64) owner _ (refl, fits-owner) $ fjoin ! $ owned ! usize (Is usize) (uint-makes 𝓤 H A W w64) slot _ (refl, fits-slot) $ fjoin ! $ owned ! u64 (Is u64) (uint-makes 𝓤 H A W w64) mark _ (refl, fits-mark) $ fjoin ! $ move ! (5 ∷ 0 ∷ []) $ fjoin ! $ move ! (4 ∷ 0 ∷ []) $ fjoin ! $ move ! (3 ∷ 0 ∷ []) $ fjoin ! $ move ! (2 ∷ 0 ∷ []) $ fjoin ! $ move ! (1 ∷ 0 ∷ []) $ fjoin ! $ owned ! u32 (Is u32) (uint-makes 𝓤 H A W w32) mode _ (refl, fits-mode) $ fjoin ! $ owned ! usize (Is usize) (uint-makes 𝓤 H A W w64) n _ (refl, fits-n) $ fjoin ! $
       frame ! $ owned ! u32 (Is u32) (uint-makes 𝓤 H A W w32) r _ is $ done !
 
+  -- the struct that is made
+  abbrev made-11 : SharedOwnerRecord
+  made-11 = record { 0 = owner }
+
+  is-made-11 : Is SharedOwnerRecordT.the-row made-11 (LL.val SharedOwnerRecordT.the-type SharedOwnerRecordL.the-laws made-11 ∷ [])
+  is-made-11 = LL.owes SharedOwnerRecordT.the-type SharedOwnerRecordL.the-laws made-11 ((refl, fits-owner), tt)
+
   -- `look_through`: what it is passed, and what it tells
   abbrev args-look-through : ℕ → GName → RefT (List SharedReadMark) × (ℕ × (ℕ × Unit {0}))
   args-look-through ν δ = ((at-list δ ys), (n, (mark, tt)))
@@ -146,20 +153,20 @@ module _ {M : Type 1} (𝓤 : URA M) (H : Heap 𝓤) (A : Atoms 𝓤) (W : Given
   Says-look-through ν δ t1 = t1 ≡ seen-of (min n (length ys)) ys mark
 
   -- `unregister_reader_for_snapshot`: what it is passed, and what it tells
-  abbrev args-unregister-reader-for-snapshot : Seen → Val → ℕ × (ℕ × (RefT (List ℕ) × (RefT (List ℕ) × (RefT (List ℕ) × (RefT (List ℕ) × (ℕ × (Seen × (ℕ × (ℕ × (ℕ × Unit {0}))))))))))
-  args-unregister-reader-for-snapshot t1 v1 = (n, (mode, (bitmap, (reader-frames, (reader-owners, (local-readers, ((length ys), (t1, (mark, (slot, (owner, tt)))))))))))
+  abbrev args-unregister-reader-for-snapshot : Seen → Val → ℕ × (ℕ × (RefT (List ℕ) × (RefT (List ℕ) × (RefT (List ℕ) × (RefT (List ℕ) × (ℕ × (Seen × (ℕ × (ℕ × (SharedOwnerRecord × Unit {0}))))))))))
+  args-unregister-reader-for-snapshot t1 v1 = (n, (mode, (bitmap, (reader-frames, (reader-owners, (local-readers, ((length ys), (t1, (mark, (slot, (made-11, tt)))))))))))
 
   abbrev vals-unregister-reader-for-snapshot : Seen → Val → List Val × (List Val × (List Val × (List Val × (List Val × (List Val × (List Val × (List Val × (List Val × (List Val × (List Val × Unit {0}))))))))))
-  vals-unregister-reader-for-snapshot t1 v1 = (vint w64 n ∷ [], (vint w32 mode ∷ [], (slice-vals bitmap, (slice-vals reader-frames, (slice-vals reader-owners, (slice-vals local-readers, (vint w64 (length ys) ∷ [], (v1 ∷ [], (vint w64 mark ∷ [], (vint w64 slot ∷ [], (vint w64 owner ∷ [], tt)))))))))))
+  vals-unregister-reader-for-snapshot t1 v1 = (vint w64 n ∷ [], (vint w32 mode ∷ [], (slice-vals bitmap, (slice-vals reader-frames, (slice-vals reader-owners, (slice-vals local-readers, (vint w64 (length ys) ∷ [], (v1 ∷ [], (vint w64 mark ∷ [], (vint w64 slot ∷ [], (LL.val SharedOwnerRecordT.the-type SharedOwnerRecordL.the-laws made-11 ∷ [], tt)))))))))))
 
   abbrev to-unregister-reader-for-snapshot : Seen → Val → Meets-unregister-reader-for-snapshot 𝓤 H A mem run .Ghost
   to-unregister-reader-for-snapshot t1 v1 = (((κ0, (κ1, (κ2, (κ3, tt)))), (q0, (q1, (q2, (q3, tt)))), tt, args-unregister-reader-for-snapshot t1 v1, vals-unregister-reader-for-snapshot t1 v1), tt)
 
-  goes-unregister-reader-for-snapshot : (t1 : Seen) (v1 : Val) → ent 𝓤 (⋆ 𝓤 H A ((‵ (flft κ0 q0) ⊛ ‵ (flft κ1 q1) ⊛ ‵ (flft κ2 q2) ⊛ ‵ (flft κ3 q3) ⊛ ‵ ftrue) ∷ ‵ (owns (usize ∷ u32 ∷ MutSlice (named 0) κ0 u64 ∷ MutSlice (named 1) κ1 u64 ∷ MutSlice (named 2) κ2 u64 ∷ MutSlice (named 3) κ3 u64 ∷ usize ∷ SeenT.the-row ∷ u64 ∷ usize ∷ u64 ∷ []) (args-unregister-reader-for-snapshot t1 v1) (vals-unregister-reader-for-snapshot t1 v1)) ∷ [])) (Meets-unregister-reader-for-snapshot 𝓤 H A mem run .pre (to-unregister-reader-for-snapshot t1 v1))
-  goes-unregister-reader-for-snapshot t1 v1 = qed W ((‵ (flft κ0 q0) ⊛ ‵ (flft κ1 q1) ⊛ ‵ (flft κ2 q2) ⊛ ‵ (flft κ3 q3) ⊛ ‵ ftrue) ∷ ‵ (owns (usize ∷ u32 ∷ MutSlice (named 0) κ0 u64 ∷ MutSlice (named 1) κ1 u64 ∷ MutSlice (named 2) κ2 u64 ∷ MutSlice (named 3) κ3 u64 ∷ usize ∷ SeenT.the-row ∷ u64 ∷ usize ∷ u64 ∷ []) (args-unregister-reader-for-snapshot t1 v1) (vals-unregister-reader-for-snapshot t1 v1)) ∷ []) ∵ join ! $ frame ! $ done !
+  goes-unregister-reader-for-snapshot : (t1 : Seen) (v1 : Val) → ent 𝓤 (⋆ 𝓤 H A ((‵ (flft κ0 q0) ⊛ ‵ (flft κ1 q1) ⊛ ‵ (flft κ2 q2) ⊛ ‵ (flft κ3 q3) ⊛ ‵ ftrue) ∷ ‵ (owns (usize ∷ u32 ∷ MutSlice (named 0) κ0 u64 ∷ MutSlice (named 1) κ1 u64 ∷ MutSlice (named 2) κ2 u64 ∷ MutSlice (named 3) κ3 u64 ∷ usize ∷ SeenT.the-row ∷ u64 ∷ usize ∷ SharedOwnerRecordT.the-row ∷ []) (args-unregister-reader-for-snapshot t1 v1) (vals-unregister-reader-for-snapshot t1 v1)) ∷ [])) (Meets-unregister-reader-for-snapshot 𝓤 H A mem run .pre (to-unregister-reader-for-snapshot t1 v1))
+  goes-unregister-reader-for-snapshot t1 v1 = qed W ((‵ (flft κ0 q0) ⊛ ‵ (flft κ1 q1) ⊛ ‵ (flft κ2 q2) ⊛ ‵ (flft κ3 q3) ⊛ ‵ ftrue) ∷ ‵ (owns (usize ∷ u32 ∷ MutSlice (named 0) κ0 u64 ∷ MutSlice (named 1) κ1 u64 ∷ MutSlice (named 2) κ2 u64 ∷ MutSlice (named 3) κ3 u64 ∷ usize ∷ SeenT.the-row ∷ u64 ∷ usize ∷ SharedOwnerRecordT.the-row ∷ []) (args-unregister-reader-for-snapshot t1 v1) (vals-unregister-reader-for-snapshot t1 v1)) ∷ []) ∵ join ! $ frame ! $ done !
 
   abbrev Says-unregister-reader-for-snapshot : Seen → Val → UnshareStep → List ℕ → List ℕ → List ℕ → List ℕ → Type 0
-  Says-unregister-reader-for-snapshot t1 v1 t2 w-bitmap w-reader-frames w-reader-owners w-local-readers = PlanStep refusal-number n mark t1 (length ys) (with-mode (mode-given mode) (λ given. unregister-reader-for-snapshot n given mark slot owner)) (bitmap .now) (reader-frames .now) (reader-owners .now) (local-readers .now) (t2 .refusal) w-bitmap w-reader-frames w-reader-owners w-local-readers (released (t2 .released))
+  Says-unregister-reader-for-snapshot t1 v1 t2 w-bitmap w-reader-frames w-reader-owners w-local-readers = PlanStep refusal-number n mark t1 (length ys) (with-mode (mode-given mode) (λ given. unregister-reader-for-snapshot n given mark slot (made-11 .0))) (bitmap .now) (reader-frames .now) (reader-owners .now) (local-readers .now) (t2 .refusal) w-bitmap w-reader-frames w-reader-owners w-local-readers (released (t2 .released))
 
   -- `release_shared_snapshot_reader`: what it is passed, and what it tells
   abbrev args-release-shared-snapshot-reader : UnshareStep → RefT (List SharedReadMark) × (ℕ × Unit {0})
@@ -183,24 +190,25 @@ module _ {M : Type 1} (𝓤 : URA M) (H : Heap 𝓤) (A : Atoms 𝓤) (W : Given
         qed W ((‵ (flft κ0 q0) ⊛ ‵ (flft κ1 q1) ⊛ ‵ (flft κ2 q2) ⊛ ‵ (flft κ3 q3) ⊛ ‵ (flft κ4 q4) ⊛ ‵ ftrue) ∷ ‵ (owns (usize ∷ u32 ∷ MutSlice (named 0) κ0 u64 ∷ MutSlice (named 1) κ1 u64 ∷ MutSlice (named 2) κ2 u64 ∷ MutSlice (named 3) κ3 u64 ∷ MutSlice (named 4) κ4 SharedReadMarkT.the-row ∷ u64 ∷ usize ∷ u64 ∷ []) passed at) ∷ []) ∵ enter ! C Λ code.function flat _ $
         alloc1 ! (λ l₀. alloc1 ! (λ l₁. alloc1 ! (λ l₂. alloc1 ! (λ l₃. alloc1 ! (λ l₄. alloc1 ! (λ l₅. alloc1 ! (λ l₆. alloc1 ! (λ l₇. alloc1 ! (λ l₈. alloc1 ! (λ l₉. alloc1 ! (λ l₁₀. alloc1 ! (λ l₁₁. alloc1 ! (λ l₁₂.
         alloc1 ! (λ l₁₃. alloc1 ! (λ l₁₄. alloc1 ! (λ l₁₅. alloc1 ! (λ l₁₆. alloc1 ! (λ l₁₇. alloc1 ! (λ l₁₈. alloc1 ! (λ l₁₉. alloc1 ! (λ l₂₀. alloc1 ! (λ l₂₁. alloc1 ! (λ l₂₂. alloc1 ! (λ l₂₃. alloc1 ! (λ l₂₄. alloc1 ! (λ l₂₅.
-        alloc1 ! (λ l₂₆. alloc0 ! $ params1 ! $ pass1 ! (init ! 50 refl (tt, record { fits = fits-n })) $ pass1 ! (init ! 48 refl (tt, record { fits = fits-mode })) $
-        pass1 ! (init ! 46 refl (tt, (tt, (record { fits = room-bitmap .0 }, tt)))) $ pass1 ! (init ! 44 refl (tt, (tt, (record { fits = room-reader-frames .0 }, tt)))) $
-        pass1 ! (init ! 42 refl (tt, (tt, (record { fits = room-reader-owners .0 }, tt)))) $ pass1 ! (init ! 40 refl (tt, (tt, (record { fits = room-local-readers .0 }, tt)))) $
-        pass1 ! (init ! 38 refl (tt, (tt, (record { fits = room-registry .0 }, tt)))) $ pass1 ! (init ! 36 refl (tt, record { fits = fits-mark })) $ pass1 ! (init ! 34 refl (tt, record { fits = fits-slot })) $
-        pass1 ! (init ! 32 refl (tt, record { fits = fits-owner })) $ pass0 ! $ move ! (55 ∷ []) $ fsplit ! $ drop ! $ fsplit ! $ drop ! $ fsplit ! $ move ! (1 ∷ []) $ fsplit ! $ move ! (1 ∷ []) $ fsplit ! $ move ! (1 ∷ []) $
-        fsplit ! $ move ! (1 ∷ []) $ fsplit ! $ move ! (1 ∷ []) $ fsplit ! $ drop ! $ fsplit ! $ drop ! $ fsplit ! $ drop ! $ drop ! $ move ! (59 ∷ []) $ split ! $ move ! (1 ∷ []) $ split ! $ move ! (1 ∷ []) $ split ! $
+        alloc1 ! (λ l₂₆. alloc1 ! (λ l₂₇. alloc0 ! $ params1 ! $ pass1 ! (init ! 52 refl (tt, record { fits = fits-n })) $ pass1 ! (init ! 50 refl (tt, record { fits = fits-mode })) $
+        pass1 ! (init ! 48 refl (tt, (tt, (record { fits = room-bitmap .0 }, tt)))) $ pass1 ! (init ! 46 refl (tt, (tt, (record { fits = room-reader-frames .0 }, tt)))) $
+        pass1 ! (init ! 44 refl (tt, (tt, (record { fits = room-reader-owners .0 }, tt)))) $ pass1 ! (init ! 42 refl (tt, (tt, (record { fits = room-local-readers .0 }, tt)))) $
+        pass1 ! (init ! 40 refl (tt, (tt, (record { fits = room-registry .0 }, tt)))) $ pass1 ! (init ! 38 refl (tt, record { fits = fits-mark })) $ pass1 ! (init ! 36 refl (tt, record { fits = fits-slot })) $
+        pass1 ! (init ! 34 refl (tt, record { fits = fits-owner })) $ pass0 ! $ move ! (57 ∷ []) $ fsplit ! $ drop ! $ fsplit ! $ drop ! $ fsplit ! $ move ! (1 ∷ []) $ fsplit ! $ move ! (1 ∷ []) $ fsplit ! $ move ! (1 ∷ []) $
+        fsplit ! $ move ! (1 ∷ []) $ fsplit ! $ move ! (1 ∷ []) $ fsplit ! $ drop ! $ fsplit ! $ drop ! $ fsplit ! $ drop ! $ drop ! $ move ! (61 ∷ []) $ split ! $ move ! (1 ∷ []) $ split ! $ move ! (1 ∷ []) $ split ! $
         move ! (1 ∷ []) $ split ! $ move ! (1 ∷ []) $ split ! $ move ! (1 ∷ []) $ drop ! $
-        assigns ! (of-opd ! (load ! (from ! (fld ! refl (stop !))) (look-in ! 48 (sub ! 1 refl (whole !))))) (from ! (stop !)) (init ! 40 refl (tt, record { fits = room-registry .0 })) $
+        assigns ! (agg ! (and-then ! (load ! (from ! (stop !)) (look ! 44 refl)) (no-more !))) (from ! (stop !)) (init ! 42 refl (LL.lawful SharedOwnerRecordT.the-type SharedOwnerRecordL.the-laws 𝓤 H A W .typed made-11 _ is-made-11 .0)) $
+        assigns ! (of-opd ! (load ! (from ! (fld ! refl (stop !))) (look-in ! 50 (sub ! 1 refl (whole !))))) (from ! (stop !)) (init ! 40 refl (tt, record { fits = room-registry .0 })) $
         -- the slice of structs is opened, to be lent as a `&`
         move ! (5 ∷ []) $ fsplit ! $ move ! (1 ∷ []) $ fsplit ! $ move ! (0 ∷ 1 ∷ 3 ∷ []) $ opens-slice ! tt SharedReadMarkT.the-row ys b o $
-        assigns ! (addr ! (from ! (fld ! refl (hop ! (look-in ! 51 (sub ! 0 refl (whole !))) (stop !))))) (from ! (stop !)) (init ! 37 refl (tt, tt)) $
-        assigns ! (agg ! (and-then ! (load ! (from ! (stop !)) (look ! 37 refl)) (and-then ! (load ! (from ! (fld ! refl (stop !))) (look-in ! 51 (sub ! 1 refl (whole !)))) (no-more !)))) (from ! (stop !)) (init ! 35 refl (tt, (tt, (record { fits = room-registry .0 }, tt)))) $
+        assigns ! (addr ! (from ! (fld ! refl (hop ! (look-in ! 53 (sub ! 0 refl (whole !))) (stop !))))) (from ! (stop !)) (init ! 37 refl (tt, tt)) $
+        assigns ! (agg ! (and-then ! (load ! (from ! (stop !)) (look ! 37 refl)) (and-then ! (load ! (from ! (fld ! refl (stop !))) (look-in ! 53 (sub ! 1 refl (whole !)))) (no-more !)))) (from ! (stop !)) (init ! 35 refl (tt, (tt, (record { fits = room-registry .0 }, tt)))) $
         -- for a lifetime ν of the call
         feqI ! ℕ (length ys) (length ys) refl $ fjoin ! $ lft-new ! tt (λ ν. move ! (1 ∷ []) $
         use1 W (later (some (λ (δ : GName). ‵ (ShrSlice (named 0) (ν ∷ []) SharedReadMarkT.the-row .own (at-list δ ys) (seen ∷ [])) ⊛ ‵ (flent (ν ∷ []) (arr-parts (shares SharedReadMarkT.the-row) (length ys) .part fullShare ys b o))))) (lends-shr-slice 𝓤 H A W SharedReadMarkT.the-row (named 0) (ν ∷ []) fullShare ys b o room-registry) $ await ! tt $ pick ! (λ δ.
         split ! $ nothing ! $ owned ! u64 (Is u64) (uint-makes 𝓤 H A W w64) mark _ (refl, fits-mark) $ fjoin ! $ owned ! usize (Is usize) (uint-makes 𝓤 H A W w64) n _ (refl, fits-n) $ fjoin ! $ move ! (1 ∷ 0 ∷ []) $ fjoin ! $
         nothing ! $ move ! (3 ∷ 0 ∷ []) $ join ! $ use2 W (raw (Meets-look-through 𝓤 H A mem run .pre (to-look-through ν δ))) (goes-look-through ν δ) $
-        calls-at ! fm (Meets-look-through 𝓤 H A mem run) known-look-through (to-look-through ν δ) (and-then ! (load ! (from ! (stop !)) (look ! 36 refl)) (and-then ! (load ! (from ! (stop !)) (look ! 64 refl)) (and-then ! (load ! (from ! (stop !)) (look ! 50 refl)) (no-more !)))) (λ v1.
+        calls-at ! fm (Meets-look-through 𝓤 H A mem run) known-look-through (to-look-through ν δ) (and-then ! (load ! (from ! (stop !)) (look ! 36 refl)) (and-then ! (load ! (from ! (stop !)) (look ! 66 refl)) (and-then ! (load ! (from ! (stop !)) (look ! 52 refl)) (no-more !)))) (λ v1.
         use1 W (later (some (λ (t1 : Seen). ((‵ (flft (ν ∷ []) fullShare) ⊛ ‵ ftrue) ⊛ ‵ (SeenT.the-row .own t1 (v1 ∷ []))) ⊛ raw (ensured 𝓤 H A look-through-fn.ended (look-through-fn.clauses 𝓤 H A mem run) ((ν ∷ []), tt) (args-look-through ν δ) tt t1)))) (id⊢ 𝓤 _) $ await ! tt $ pick ! (λ t1.
         split ! $ move ! (1 ∷ []) $
         use1 W (some (λ (ws1 : Unit {0} × (Unit {0} × (Unit {0} × Unit {0}))). ‵ (lasts look-through-fn.ended ((ν ∷ []), tt) (args-look-through ν δ) ws1) ⊛ raw (fact 𝓤 (Says-look-through ν δ t1)))) (id⊢ 𝓤 _) $ pick ! (λ ws1.
@@ -208,21 +216,22 @@ module _ {M : Type 1} (𝓤 : URA M) (H : Heap 𝓤) (A : Atoms 𝓤) (W : Given
         land ! (from ! (stop !)) (init ! 43 refl (LL.lawful SeenT.the-type SeenL.the-laws 𝓤 H A W .typed t1 _ is1 .0)) $ move ! (1 ∷ []) $ split ! $ move ! (1 ∷ []) $ drop ! $
         -- the slice of structs comes back
         lft-end ! tt $ move ! (0 ∷ 2 ∷ []) $ lent-back ! tt $ fsplit ! $ drop ! $ move ! (0 ∷ 2 ∷ 3 ∷ 4 ∷ []) $ closes-slice ! tt SharedReadMarkT.the-row ys ys refl b o $ fjoin ! $ move ! (3 ∷ 0 ∷ []) $ fjoin ! $
-        assigns ! (addr ! (from ! (fld ! refl (hop ! (look-in ! 57 (sub ! 0 refl (whole !))) (stop !))))) (from ! (stop !)) (init ! 31 refl (tt, tt)) $
-        assigns ! (agg ! (and-then ! (load ! (from ! (stop !)) (look ! 31 refl)) (and-then ! (load ! (from ! (fld ! refl (stop !))) (look-in ! 57 (sub ! 1 refl (whole !)))) (no-more !)))) (from ! (stop !)) (init ! 29 refl (tt, (tt, (record { fits = room-bitmap .0 }, tt)))) $
-        assigns ! (addr ! (from ! (fld ! refl (hop ! (look-in ! 55 (sub ! 0 refl (whole !))) (stop !))))) (from ! (stop !)) (init ! 27 refl (tt, tt)) $
-        assigns ! (agg ! (and-then ! (load ! (from ! (stop !)) (look ! 27 refl)) (and-then ! (load ! (from ! (fld ! refl (stop !))) (look-in ! 55 (sub ! 1 refl (whole !)))) (no-more !)))) (from ! (stop !)) (init ! 25 refl (tt, (tt, (record { fits = room-reader-frames .0 }, tt)))) $
-        assigns ! (addr ! (from ! (fld ! refl (hop ! (look-in ! 53 (sub ! 0 refl (whole !))) (stop !))))) (from ! (stop !)) (init ! 23 refl (tt, tt)) $
-        assigns ! (agg ! (and-then ! (load ! (from ! (stop !)) (look ! 23 refl)) (and-then ! (load ! (from ! (fld ! refl (stop !))) (look-in ! 53 (sub ! 1 refl (whole !)))) (no-more !)))) (from ! (stop !)) (init ! 21 refl (tt, (tt, (record { fits = room-reader-owners .0 }, tt)))) $
-        assigns ! (addr ! (from ! (fld ! refl (hop ! (look-in ! 51 (sub ! 0 refl (whole !))) (stop !))))) (from ! (stop !)) (init ! 19 refl (tt, tt)) $
-        assigns ! (agg ! (and-then ! (load ! (from ! (stop !)) (look ! 19 refl)) (and-then ! (load ! (from ! (fld ! refl (stop !))) (look-in ! 51 (sub ! 1 refl (whole !)))) (no-more !)))) (from ! (stop !)) (init ! 17 refl (tt, (tt, (record { fits = room-local-readers .0 }, tt)))) $
+        assigns ! (addr ! (from ! (fld ! refl (hop ! (look-in ! 59 (sub ! 0 refl (whole !))) (stop !))))) (from ! (stop !)) (init ! 31 refl (tt, tt)) $
+        assigns ! (agg ! (and-then ! (load ! (from ! (stop !)) (look ! 31 refl)) (and-then ! (load ! (from ! (fld ! refl (stop !))) (look-in ! 59 (sub ! 1 refl (whole !)))) (no-more !)))) (from ! (stop !)) (init ! 29 refl (tt, (tt, (record { fits = room-bitmap .0 }, tt)))) $
+        assigns ! (addr ! (from ! (fld ! refl (hop ! (look-in ! 57 (sub ! 0 refl (whole !))) (stop !))))) (from ! (stop !)) (init ! 27 refl (tt, tt)) $
+        assigns ! (agg ! (and-then ! (load ! (from ! (stop !)) (look ! 27 refl)) (and-then ! (load ! (from ! (fld ! refl (stop !))) (look-in ! 57 (sub ! 1 refl (whole !)))) (no-more !)))) (from ! (stop !)) (init ! 25 refl (tt, (tt, (record { fits = room-reader-frames .0 }, tt)))) $
+        assigns ! (addr ! (from ! (fld ! refl (hop ! (look-in ! 55 (sub ! 0 refl (whole !))) (stop !))))) (from ! (stop !)) (init ! 23 refl (tt, tt)) $
+        assigns ! (agg ! (and-then ! (load ! (from ! (stop !)) (look ! 23 refl)) (and-then ! (load ! (from ! (fld ! refl (stop !))) (look-in ! 55 (sub ! 1 refl (whole !)))) (no-more !)))) (from ! (stop !)) (init ! 21 refl (tt, (tt, (record { fits = room-reader-owners .0 }, tt)))) $
+        assigns ! (addr ! (from ! (fld ! refl (hop ! (look-in ! 53 (sub ! 0 refl (whole !))) (stop !))))) (from ! (stop !)) (init ! 19 refl (tt, tt)) $
+        assigns ! (agg ! (and-then ! (load ! (from ! (stop !)) (look ! 19 refl)) (and-then ! (load ! (from ! (fld ! refl (stop !))) (look-in ! 53 (sub ! 1 refl (whole !)))) (no-more !)))) (from ! (stop !)) (init ! 17 refl (tt, (tt, (record { fits = room-local-readers .0 }, tt)))) $
         -- `unregister_reader_for_snapshot`
-        nothing ! $ owned ! u64 (Is u64) (uint-makes 𝓤 H A W w64) owner _ (refl, fits-owner) $ fjoin ! $ owned ! usize (Is usize) (uint-makes 𝓤 H A W w64) slot _ (refl, fits-slot) $ fjoin ! $
-        owned ! u64 (Is u64) (uint-makes 𝓤 H A W w64) mark _ (refl, fits-mark) $ fjoin ! $ move ! (3 ∷ 0 ∷ []) $ fjoin ! $ owned ! usize (Is usize) (uint-makes 𝓤 H A W w64) (length ys) _ (refl, room-registry .0) $ fjoin ! $
-        move ! (7 ∷ 0 ∷ []) $ fjoin ! $ move ! (7 ∷ 0 ∷ []) $ fjoin ! $ move ! (7 ∷ 0 ∷ []) $ fjoin ! $ move ! (7 ∷ 0 ∷ []) $ fjoin ! $ owned ! u32 (Is u32) (uint-makes 𝓤 H A W w32) mode _ (refl, fits-mode) $ fjoin ! $
-        owned ! usize (Is usize) (uint-makes 𝓤 H A W w64) n _ (refl, fits-n) $ fjoin ! $ nothing ! $ move ! (4 ∷ 0 ∷ []) $ join ! $ move ! (4 ∷ 0 ∷ []) $ join ! $ move ! (4 ∷ 0 ∷ []) $ join ! $ move ! (4 ∷ 0 ∷ []) $ join ! $
+        nothing ! $ owned ! SharedOwnerRecordT.the-row (Is SharedOwnerRecordT.the-row) (LL.makes SharedOwnerRecordT.the-type SharedOwnerRecordL.the-plain 𝓤 H A) made-11 _ is-made-11 $ fjoin ! $
+        owned ! usize (Is usize) (uint-makes 𝓤 H A W w64) slot _ (refl, fits-slot) $ fjoin ! $ owned ! u64 (Is u64) (uint-makes 𝓤 H A W w64) mark _ (refl, fits-mark) $ fjoin ! $ move ! (3 ∷ 0 ∷ []) $ fjoin ! $
+        owned ! usize (Is usize) (uint-makes 𝓤 H A W w64) (length ys) _ (refl, room-registry .0) $ fjoin ! $ move ! (7 ∷ 0 ∷ []) $ fjoin ! $ move ! (7 ∷ 0 ∷ []) $ fjoin ! $ move ! (7 ∷ 0 ∷ []) $ fjoin ! $ move ! (7 ∷ 0 ∷ []) $
+        fjoin ! $ owned ! u32 (Is u32) (uint-makes 𝓤 H A W w32) mode _ (refl, fits-mode) $ fjoin ! $ owned ! usize (Is usize) (uint-makes 𝓤 H A W w64) n _ (refl, fits-n) $ fjoin ! $ nothing ! $ move ! (4 ∷ 0 ∷ []) $ join ! $
+        move ! (4 ∷ 0 ∷ []) $ join ! $ move ! (4 ∷ 0 ∷ []) $ join ! $ move ! (4 ∷ 0 ∷ []) $ join ! $
         use2 W (raw (Meets-unregister-reader-for-snapshot 𝓤 H A mem run .pre (to-unregister-reader-for-snapshot t1 v1))) (goes-unregister-reader-for-snapshot t1 v1) $
-        calls-at ! fm (Meets-unregister-reader-for-snapshot 𝓤 H A mem run) known-unregister-reader-for-snapshot (to-unregister-reader-for-snapshot t1 v1) (and-then ! (load ! (from ! (stop !)) (look ! 53 refl)) (and-then ! (load ! (from ! (stop !)) (look ! 51 refl)) (and-then ! (load ! (from ! (stop !)) (look ! 21 refl)) (and-then ! (load ! (from ! (stop !)) (look ! 17 refl)) (and-then ! (load ! (from ! (stop !)) (look ! 13 refl)) (and-then ! (load ! (from ! (stop !)) (look ! 9 refl)) (and-then ! (load ! (from ! (stop !)) (look ! 33 refl)) (and-then ! (load ! (from ! (stop !)) (look ! 31 refl)) (and-then ! (load ! (from ! (stop !)) (look ! 39 refl)) (and-then ! (load ! (from ! (stop !)) (look ! 37 refl)) (and-then ! (load ! (from ! (stop !)) (look ! 35 refl)) (no-more !)))))))))))) (λ v2.
+        calls-at ! fm (Meets-unregister-reader-for-snapshot 𝓤 H A mem run) known-unregister-reader-for-snapshot (to-unregister-reader-for-snapshot t1 v1) (and-then ! (load ! (from ! (stop !)) (look ! 55 refl)) (and-then ! (load ! (from ! (stop !)) (look ! 53 refl)) (and-then ! (load ! (from ! (stop !)) (look ! 21 refl)) (and-then ! (load ! (from ! (stop !)) (look ! 17 refl)) (and-then ! (load ! (from ! (stop !)) (look ! 13 refl)) (and-then ! (load ! (from ! (stop !)) (look ! 9 refl)) (and-then ! (load ! (from ! (stop !)) (look ! 33 refl)) (and-then ! (load ! (from ! (stop !)) (look ! 31 refl)) (and-then ! (load ! (from ! (stop !)) (look ! 41 refl)) (and-then ! (load ! (from ! (stop !)) (look ! 39 refl)) (and-then ! (load ! (from ! (stop !)) (look ! 35 refl)) (no-more !)))))))))))) (λ v2.
         use1 W (later (some (λ (t2 : UnshareStep). ((‵ (flft κ0 q0) ⊛ ‵ (flft κ1 q1) ⊛ ‵ (flft κ2 q2) ⊛ ‵ (flft κ3 q3) ⊛ ‵ ftrue) ⊛ ‵ (UnshareStepT.the-row .own t2 (v2 ∷ []))) ⊛ raw (ensured 𝓤 H A unregister-reader-for-snapshot-fn.ended (unregister-reader-for-snapshot-fn.clauses 𝓤 H A mem run) (κ0, (κ1, (κ2, (κ3, tt)))) (args-unregister-reader-for-snapshot t1 v1) tt t2)))) (id⊢ 𝓤 _) $ await ! tt $ pick ! (λ t2.
         split ! $ move ! (1 ∷ []) $
         use1 W (some (λ (ws2 : Unit {0} × (Unit {0} × (List ℕ × (List ℕ × (List ℕ × (List ℕ × (Unit {0} × (Unit {0} × (Unit {0} × (Unit {0} × (Unit {0} × Unit {0}))))))))))). ‵ (lasts unregister-reader-for-snapshot-fn.ended (κ0, (κ1, (κ2, (κ3, tt)))) (args-unregister-reader-for-snapshot t1 v1) ws2) ⊛ raw (fact 𝓤 (Says-unregister-reader-for-snapshot t1 v1 t2 (ws2 .1 .1 .0) (ws2 .1 .1 .1 .0) (ws2 .1 .1 .1 .1 .0) (ws2 .1 .1 .1 .1 .1 .0))))) (id⊢ 𝓤 _) $ pick ! (λ ws2.
@@ -231,9 +240,9 @@ module _ {M : Type 1} (𝓤 : URA M) (H : Heap 𝓤) (A : Atoms 𝓤) (W : Given
         feqL ! (λ long-reader-owners. move ! (1 ∷ []) $ fsplit ! $ fsplit ! $ move ! (1 ∷ []) $ feqL ! (λ long-local-readers. move ! (1 ∷ []) $ drop ! $ move ! (4 ∷ []) $ split ! $ move ! (1 ∷ []) $
         peeks ! UnshareStepT.the-row (Is UnshareStepT.the-row) (shows 𝓤 H A UnshareStepT.the-row) t2 (v2 ∷ []) (λ is2. drop ! $
         land ! (from ! (stop !)) (init ! 33 refl (LL.lawful UnshareStepT.the-type UnshareStepL.the-laws 𝓤 H A W .typed t2 _ is2 .0)) $
-        rewrite ! 33 (λ (u : Val). ‵ (fat fullShare UnshareStepL.mir l₁₃ 0 u)) (ap only (LL.tells UnshareStepT.the-type UnshareStepL.the-laws t2 (v2 ∷ []) is2)) refl $ split ! $ move ! (1 ∷ []) $ split ! $ move ! (1 ∷ []) $
-        split ! $ move ! (1 ∷ []) $ split ! $ move ! (1 ∷ []) $ drop ! $ assigns ! (addr ! (from ! (fld ! refl (hop ! (look-in ! 48 (sub ! 0 refl (whole !))) (stop !))))) (from ! (stop !)) (init ! 12 refl (tt, tt)) $
-        assigns ! (agg ! (and-then ! (load ! (from ! (stop !)) (look ! 12 refl)) (and-then ! (load ! (from ! (fld ! refl (stop !))) (look-in ! 48 (sub ! 1 refl (whole !)))) (no-more !)))) (from ! (stop !)) (init ! 10 refl (tt, (tt, (record { fits = room-registry .0 }, tt)))) $
+        rewrite ! 33 (λ (u : Val). ‵ (fat fullShare UnshareStepL.mir l₁₄ 0 u)) (ap only (LL.tells UnshareStepT.the-type UnshareStepL.the-laws t2 (v2 ∷ []) is2)) refl $ split ! $ move ! (1 ∷ []) $ split ! $ move ! (1 ∷ []) $
+        split ! $ move ! (1 ∷ []) $ split ! $ move ! (1 ∷ []) $ drop ! $ assigns ! (addr ! (from ! (fld ! refl (hop ! (look-in ! 50 (sub ! 0 refl (whole !))) (stop !))))) (from ! (stop !)) (init ! 12 refl (tt, tt)) $
+        assigns ! (agg ! (and-then ! (load ! (from ! (stop !)) (look ! 12 refl)) (and-then ! (load ! (from ! (fld ! refl (stop !))) (look-in ! 50 (sub ! 1 refl (whole !)))) (no-more !)))) (from ! (stop !)) (init ! 10 refl (tt, (tt, (record { fits = room-registry .0 }, tt)))) $
         -- `release_shared_snapshot_reader`
         nothing ! $ owned ! usize (Is usize) (uint-makes 𝓤 H A W w64) (t2 .released) _ (refl, LL.owed UnshareStepT.the-type UnshareStepL.the-laws t2 _ is2 .0 .1) $ fjoin ! $ move ! (9 ∷ 0 ∷ []) $ fjoin ! $ nothing ! $
         move ! (10 ∷ 0 ∷ []) $ join ! $ use2 W (raw (Meets-release-shared-snapshot-reader 𝓤 H A mem run .pre (to-release-shared-snapshot-reader t2))) (goes-release-shared-snapshot-reader t2) $
@@ -243,17 +252,18 @@ module _ {M : Type 1} (𝓤 : URA M) (H : Heap 𝓤) (A : Atoms 𝓤) (W : Given
         use1 W (some (λ (ws3 : List SharedReadMark × (Unit {0} × Unit {0})). ‵ (lasts release-shared-snapshot-reader-fn.ended (κ4, tt) (args-release-shared-snapshot-reader t2) ws3) ⊛ raw (fact 𝓤 (Says-release-shared-snapshot-reader t2 t3 (ws3 .0))))) (id⊢ 𝓤 _) $ pick ! (λ ws3.
         split ! $ move ! (1 ∷ []) $ heard ! (Says-release-shared-snapshot-reader t2 t3 (ws3 .0)) (λ e3. fsplit ! $ fsplit ! $ move ! (1 ∷ []) $ feqL ! (λ long-registry. move ! (1 ∷ []) $ drop ! $ move ! (1 ∷ []) $ split ! $
         move ! (1 ∷ []) $ peeks ! unit (Is unit) (shows 𝓤 H A unit) t3 (v3 ∷ []) (λ is3. drop ! $ land ! (from ! (stop !)) (init ! 14 refl (nothing-lawful 𝓤 H A W .typed t3 _ is3 .0)) $ split ! $ move ! (1 ∷ []) $ drop ! $
-        assigns ! (of-opd ! (load ! (from ! (fld ! refl (stop !))) (look-in ! 36 (sub ! 1 refl (whole !))))) (from ! (stop !)) (init ! 62 refl (tt, record { fits = LL.owed UnshareStepT.the-type UnshareStepL.the-laws t2 _ is2 .1 .0 .1 })) $
+        assigns ! (of-opd ! (load ! (from ! (fld ! refl (stop !))) (look-in ! 36 (sub ! 1 refl (whole !))))) (from ! (stop !)) (init ! 64 refl (tt, record { fits = LL.owed UnshareStepT.the-type UnshareStepL.the-laws t2 _ is2 .1 .0 .1 })) $
         -- the end
-        returns ! (look ! 62 refl) $ forget ! 10 refl $ forget ! 12 refl $ forget ! 14 refl $ forget ! 16 refl $ forget ! 18 refl $ forget ! 20 refl $ forget ! 22 refl $ forget ! 24 refl $ forget ! 26 refl $ forget ! 28 refl $
+        returns ! (look ! 64 refl) $ forget ! 10 refl $ forget ! 12 refl $ forget ! 14 refl $ forget ! 16 refl $ forget ! 18 refl $ forget ! 20 refl $ forget ! 22 refl $ forget ! 24 refl $ forget ! 26 refl $ forget ! 28 refl $
         forget ! 30 refl $ forget ! 32 refl $ forget ! 34 refl $ forget ! 36 refl $ forget ! 38 refl $ forget ! 40 refl $ forget ! 42 refl $ forget ! 44 refl $ forget ! 46 refl $ forget ! 48 refl $ forget ! 50 refl $
-        forget ! 52 refl $ forget ! 54 refl $ forget ! 56 refl $ forget ! 58 refl $ forget ! 60 refl $ forget ! 62 refl $ move ! (62 ∷ 63 ∷ []) $ free1 ! $ move ! (60 ∷ 61 ∷ []) $ free1 ! $ move ! (58 ∷ 59 ∷ []) $ free1 ! $
-        move ! (56 ∷ 57 ∷ []) $ free1 ! $ move ! (54 ∷ 55 ∷ []) $ free1 ! $ move ! (52 ∷ 53 ∷ []) $ free1 ! $ move ! (50 ∷ 51 ∷ []) $ free1 ! $ move ! (48 ∷ 49 ∷ []) $ free1 ! $ move ! (46 ∷ 47 ∷ []) $ free1 ! $
-        move ! (44 ∷ 45 ∷ []) $ free1 ! $ move ! (42 ∷ 43 ∷ []) $ free1 ! $ move ! (40 ∷ 41 ∷ []) $ free1 ! $ move ! (38 ∷ 39 ∷ []) $ free1 ! $ move ! (36 ∷ 37 ∷ []) $ free1 ! $ move ! (34 ∷ 35 ∷ []) $ free1 ! $
-        move ! (32 ∷ 33 ∷ []) $ free1 ! $ move ! (30 ∷ 31 ∷ []) $ free1 ! $ move ! (28 ∷ 29 ∷ []) $ free1 ! $ move ! (26 ∷ 27 ∷ []) $ free1 ! $ move ! (24 ∷ 25 ∷ []) $ free1 ! $ move ! (22 ∷ 23 ∷ []) $ free1 ! $
-        move ! (20 ∷ 21 ∷ []) $ free1 ! $ move ! (18 ∷ 19 ∷ []) $ free1 ! $ move ! (16 ∷ 17 ∷ []) $ free1 ! $ move ! (14 ∷ 15 ∷ []) $ free1 ! $ move ! (12 ∷ 13 ∷ []) $ free1 ! $ move ! (10 ∷ 11 ∷ []) $ free1 ! $ free0 ! $
-        nothing ! $ move ! (1 ∷ 0 ∷ []) $ join ! $ move ! (2 ∷ 0 ∷ []) $ join ! $ move ! (2 ∷ 0 ∷ []) $ join ! $ move ! (2 ∷ 0 ∷ []) $ join ! $ move ! (2 ∷ 0 ∷ []) $ join ! $ keep ! (0 ∷ 5 ∷ 4 ∷ 3 ∷ 2 ∷ 1 ∷ []) $
-        by ! (exits (t2 .refusal) (refl, LL.owed UnshareStepT.the-type UnshareStepL.the-laws t2 _ is2 .1 .0 .1) (ws2 .1 .1 .0) (ws2 .1 .1 .1 .0) (ws2 .1 .1 .1 .1 .0) (ws2 .1 .1 .1 .1 .1 .0) (ws3 .0) (plan-taken _ _ _ _ _ _ _ _ _ _ _ _ _ _ _ ys _ e2 e1 e3) long-bitmap long-reader-frames long-reader-owners long-local-readers long-registry))))))))))))))))))))))))))))))))))))))))))))))))))
+        forget ! 52 refl $ forget ! 54 refl $ forget ! 56 refl $ forget ! 58 refl $ forget ! 60 refl $ forget ! 62 refl $ forget ! 64 refl $ move ! (64 ∷ 65 ∷ []) $ free1 ! $ move ! (62 ∷ 63 ∷ []) $ free1 ! $
+        move ! (60 ∷ 61 ∷ []) $ free1 ! $ move ! (58 ∷ 59 ∷ []) $ free1 ! $ move ! (56 ∷ 57 ∷ []) $ free1 ! $ move ! (54 ∷ 55 ∷ []) $ free1 ! $ move ! (52 ∷ 53 ∷ []) $ free1 ! $ move ! (50 ∷ 51 ∷ []) $ free1 ! $
+        move ! (48 ∷ 49 ∷ []) $ free1 ! $ move ! (46 ∷ 47 ∷ []) $ free1 ! $ move ! (44 ∷ 45 ∷ []) $ free1 ! $ move ! (42 ∷ 43 ∷ []) $ free1 ! $ move ! (40 ∷ 41 ∷ []) $ free1 ! $ move ! (38 ∷ 39 ∷ []) $ free1 ! $
+        move ! (36 ∷ 37 ∷ []) $ free1 ! $ move ! (34 ∷ 35 ∷ []) $ free1 ! $ move ! (32 ∷ 33 ∷ []) $ free1 ! $ move ! (30 ∷ 31 ∷ []) $ free1 ! $ move ! (28 ∷ 29 ∷ []) $ free1 ! $ move ! (26 ∷ 27 ∷ []) $ free1 ! $
+        move ! (24 ∷ 25 ∷ []) $ free1 ! $ move ! (22 ∷ 23 ∷ []) $ free1 ! $ move ! (20 ∷ 21 ∷ []) $ free1 ! $ move ! (18 ∷ 19 ∷ []) $ free1 ! $ move ! (16 ∷ 17 ∷ []) $ free1 ! $ move ! (14 ∷ 15 ∷ []) $ free1 ! $
+        move ! (12 ∷ 13 ∷ []) $ free1 ! $ move ! (10 ∷ 11 ∷ []) $ free1 ! $ free0 ! $ nothing ! $ move ! (1 ∷ 0 ∷ []) $ join ! $ move ! (2 ∷ 0 ∷ []) $ join ! $ move ! (2 ∷ 0 ∷ []) $ join ! $ move ! (2 ∷ 0 ∷ []) $ join ! $
+        move ! (2 ∷ 0 ∷ []) $ join ! $ keep ! (0 ∷ 5 ∷ 4 ∷ 3 ∷ 2 ∷ 1 ∷ []) $
+        by ! (exits (t2 .refusal) (refl, LL.owed UnshareStepT.the-type UnshareStepL.the-laws t2 _ is2 .1 .0 .1) (ws2 .1 .1 .0) (ws2 .1 .1 .1 .0) (ws2 .1 .1 .1 .1 .0) (ws2 .1 .1 .1 .1 .1 .0) (ws3 .0) (plan-taken _ _ _ _ _ _ _ _ _ _ _ _ _ _ _ ys _ e2 e1 e3) long-bitmap long-reader-frames long-reader-owners long-local-readers long-registry)))))))))))))))))))))))))))))))))))))))))))))))))))
 
 module _ {M : Type 1} (𝓤 : URA M) (H : Heap 𝓤) (A : Atoms 𝓤) (W : Given 𝓤 H A) (mem : Memory → SProp 𝓤) (run : Routine → Fun 𝓤) where
   entry-walks : (C : Calls 𝓤 H) (Λ : Loops 𝓤 H) → FmC 𝓤 H (W .laws) C → Triple 𝓤 (C #reader-registry·look-through) (Meets-look-through 𝓤 H A mem run) → Triple 𝓤 (C #c-readers·registry-steps·unregister-reader-for-snapshot) (Meets-unregister-reader-for-snapshot 𝓤 H A mem run) → Triple 𝓤 (C #reader-registry·release-shared-snapshot-reader) (Meets-release-shared-snapshot-reader 𝓤 H A mem run) → Walks 𝓤 H A entry.ended stayed (WpFn 𝓤 H C Λ code.function) (entry.clauses 𝓤 H A mem run)

@@ -114,6 +114,13 @@ module _ {M : Type 1} (𝓤 : URA M) (H : Heap 𝓤) (A : Atoms 𝓤) (W : Given
       owned ! u64 (Is u64) (uint-makes 𝓤 H A W w64) mark _ (refl, fits-mark) $ fjoin ! $ owned ! u64 (Is u64) (uint-makes 𝓤 H A W w64) owner _ (refl, fits-owner) $ fjoin ! $ owned ! usize (Is usize) (uint-makes 𝓤 H A W w64) slot _ (refl, fits-slot) $ fjoin ! $ move ! (3 ∷ 0 ∷ []) $ fjoin ! $ move ! (2 ∷ 0 ∷ []) $ fjoin ! $ move ! (1 ∷ 0 ∷ []) $ fjoin ! $ owned ! usize (Is usize) (uint-makes 𝓤 H A W w64) n _ (refl, fits-n) $ fjoin ! $
       frame ! $ owned ! ReaderReplyT.the-row (Is ReaderReplyT.the-row) (LL.makes ReaderReplyT.the-type ReaderReplyL.the-plain 𝓤 H A) r _ is $ done !
 
+  -- the struct that is made
+  abbrev made-8 : SharedOwnerRecord
+  made-8 = record { 0 = owner }
+
+  is-made-8 : Is SharedOwnerRecordT.the-row made-8 (LL.val SharedOwnerRecordT.the-type SharedOwnerRecordL.the-laws made-8 ∷ [])
+  is-made-8 = LL.owes SharedOwnerRecordT.the-type SharedOwnerRecordL.the-laws made-8 ((refl, fits-owner), tt)
+
   -- `slot_is_shared`: what it is passed, and what it tells
   abbrev args-slot-is-shared : RefT (List SharedReadMark) × (ℕ × (ℕ × Unit {0}))
   args-slot-is-shared = ((at-list γ ys), (n, (slot, tt)))
@@ -131,68 +138,70 @@ module _ {M : Type 1} (𝓤 : URA M) (H : Heap 𝓤) (A : Atoms 𝓤) (W : Given
   Says-slot-is-shared t1 = t1 ≡ in-registry n ys slot
 
   -- `update_reader`: what it is passed, and what it tells
-  abbrev args-update-reader : Bool → ℕ × (RefT (List ℕ) × (RefT (List ℕ) × (ℕ × (ℕ × (ℕ × (Bool × (ℕ × Unit {0})))))))
-  args-update-reader t1 = (n, (reader-frames, (reader-owners, (slot, (owner, (mark, (t1, ((length ys), tt))))))))
+  abbrev args-update-reader : Bool → ℕ × (RefT (List ℕ) × (RefT (List ℕ) × (ℕ × (SharedOwnerRecord × (ℕ × (Bool × (ℕ × Unit {0})))))))
+  args-update-reader t1 = (n, (reader-frames, (reader-owners, (slot, (made-8, (mark, (t1, ((length ys), tt))))))))
 
   abbrev vals-update-reader : Bool → List Val × (List Val × (List Val × (List Val × (List Val × (List Val × (List Val × (List Val × Unit {0})))))))
-  vals-update-reader t1 = (vint w64 n ∷ [], (slice-vals reader-frames, (slice-vals reader-owners, (vint w64 slot ∷ [], (vint w64 owner ∷ [], (vint w64 mark ∷ [], (vbool t1 ∷ [], (vint w64 (length ys) ∷ [], tt))))))))
+  vals-update-reader t1 = (vint w64 n ∷ [], (slice-vals reader-frames, (slice-vals reader-owners, (vint w64 slot ∷ [], (LL.val SharedOwnerRecordT.the-type SharedOwnerRecordL.the-laws made-8 ∷ [], (vint w64 mark ∷ [], (vbool t1 ∷ [], (vint w64 (length ys) ∷ [], tt))))))))
 
   abbrev to-update-reader : Bool → Meets-update-reader 𝓤 H A mem run .Ghost
   to-update-reader t1 = (((κ0, (κ1, tt)), (q0, (q1, tt)), tt, args-update-reader t1, vals-update-reader t1), tt)
 
-  goes-update-reader : (t1 : Bool) → ent 𝓤 (⋆ 𝓤 H A ((‵ (flft κ0 q0) ⊛ ‵ (flft κ1 q1) ⊛ ‵ ftrue) ∷ ‵ (owns (usize ∷ MutSlice (named 0) κ0 u64 ∷ ShrSlice (named 1) κ1 u64 ∷ usize ∷ u64 ∷ u64 ∷ bool ∷ usize ∷ []) (args-update-reader t1) (vals-update-reader t1)) ∷ [])) (Meets-update-reader 𝓤 H A mem run .pre (to-update-reader t1))
-  goes-update-reader t1 = qed W ((‵ (flft κ0 q0) ⊛ ‵ (flft κ1 q1) ⊛ ‵ ftrue) ∷ ‵ (owns (usize ∷ MutSlice (named 0) κ0 u64 ∷ ShrSlice (named 1) κ1 u64 ∷ usize ∷ u64 ∷ u64 ∷ bool ∷ usize ∷ []) (args-update-reader t1) (vals-update-reader t1)) ∷ []) ∵ join ! $ frame ! $ done !
+  goes-update-reader : (t1 : Bool) → ent 𝓤 (⋆ 𝓤 H A ((‵ (flft κ0 q0) ⊛ ‵ (flft κ1 q1) ⊛ ‵ ftrue) ∷ ‵ (owns (usize ∷ MutSlice (named 0) κ0 u64 ∷ ShrSlice (named 1) κ1 u64 ∷ usize ∷ SharedOwnerRecordT.the-row ∷ u64 ∷ bool ∷ usize ∷ []) (args-update-reader t1) (vals-update-reader t1)) ∷ [])) (Meets-update-reader 𝓤 H A mem run .pre (to-update-reader t1))
+  goes-update-reader t1 = qed W ((‵ (flft κ0 q0) ⊛ ‵ (flft κ1 q1) ⊛ ‵ ftrue) ∷ ‵ (owns (usize ∷ MutSlice (named 0) κ0 u64 ∷ ShrSlice (named 1) κ1 u64 ∷ usize ∷ SharedOwnerRecordT.the-row ∷ u64 ∷ bool ∷ usize ∷ []) (args-update-reader t1) (vals-update-reader t1)) ∷ []) ∵ join ! $ frame ! $ done !
 
   abbrev Says-update-reader : Bool → ReaderReply → List ℕ → Type 0
-  Says-update-reader t1 t2 w-reader-frames = MoveStep reader-reply n slot t1 (length ys) (update-reader n slot owner mark) (reader-frames .now) (reader-owners .now) t2 w-reader-frames
+  Says-update-reader t1 t2 w-reader-frames = MoveStep reader-reply n slot t1 (length ys) (update-reader n slot (made-8 .0) mark) (reader-frames .now) (reader-owners .now) t2 w-reader-frames
 
   module _ (C : Calls 𝓤 H) (Λ : Loops 𝓤 H) (fm : FmC 𝓤 H (W .laws) C) (known-slot-is-shared : Triple 𝓤 (C #reader-registry·slot-is-shared) (Meets-slot-is-shared 𝓤 H A mem run)) (known-update-reader : Triple 𝓤 (C #c-readers·registry-steps·update-reader) (Meets-update-reader 𝓤 H A mem run)) where
     walk : ent 𝓤 (onEntry 𝓤 H A entry.signature (κ0, (κ1, (κ2, tt))) (q0, (q1, (q2, tt))) passed at) (WpFn 𝓤 H C Λ code.function flat Post)
     walk =
         qed W ((‵ (flft κ0 q0) ⊛ ‵ (flft κ1 q1) ⊛ ‵ (flft κ2 q2) ⊛ ‵ ftrue) ∷ ‵ (owns (usize ∷ MutSlice (named 0) κ0 u64 ∷ ShrSlice (named 1) κ1 u64 ∷ ShrSlice (named 2) κ2 SharedReadMarkT.the-row ∷ usize ∷ u64 ∷ u64 ∷ []) passed at) ∷ []) ∵ enter ! C Λ code.function flat _ $
-        alloc1 ! (λ l₀. alloc1 ! (λ l₁. alloc1 ! (λ l₂. alloc1 ! (λ l₃. alloc1 ! (λ l₄. alloc1 ! (λ l₅. alloc1 ! (λ l₆. alloc1 ! (λ l₇. alloc1 ! (λ l₈. alloc1 ! (λ l₉. alloc1 ! (λ l₁₀. alloc1 ! (λ l₁₁. alloc0 ! $ params1 ! $
-        pass1 ! (init ! 20 refl (tt, record { fits = fits-n })) $ pass1 ! (init ! 18 refl (tt, (tt, (record { fits = room-reader-frames .0 }, tt)))) $
-        pass1 ! (init ! 16 refl (tt, (tt, (record { fits = room-reader-owners .0 }, tt)))) $ pass1 ! (init ! 14 refl (tt, (tt, (record { fits = room-registry .0 }, tt)))) $
-        pass1 ! (init ! 12 refl (tt, record { fits = fits-slot })) $ pass1 ! (init ! 10 refl (tt, record { fits = fits-owner })) $ pass1 ! (init ! 8 refl (tt, record { fits = fits-mark })) $ pass0 ! $ move ! (25 ∷ []) $
-        fsplit ! $ drop ! $ fsplit ! $ move ! (1 ∷ []) $ fsplit ! $ move ! (1 ∷ []) $ fsplit ! $ move ! (1 ∷ []) $ fsplit ! $ drop ! $ fsplit ! $ drop ! $ fsplit ! $ drop ! $ drop ! $ move ! (27 ∷ []) $ split ! $
+        alloc1 ! (λ l₀. alloc1 ! (λ l₁. alloc1 ! (λ l₂. alloc1 ! (λ l₃. alloc1 ! (λ l₄. alloc1 ! (λ l₅. alloc1 ! (λ l₆. alloc1 ! (λ l₇. alloc1 ! (λ l₈. alloc1 ! (λ l₉. alloc1 ! (λ l₁₀. alloc1 ! (λ l₁₁. alloc1 ! (λ l₁₂.
+        alloc0 ! $ params1 ! $ pass1 ! (init ! 22 refl (tt, record { fits = fits-n })) $ pass1 ! (init ! 20 refl (tt, (tt, (record { fits = room-reader-frames .0 }, tt)))) $
+        pass1 ! (init ! 18 refl (tt, (tt, (record { fits = room-reader-owners .0 }, tt)))) $ pass1 ! (init ! 16 refl (tt, (tt, (record { fits = room-registry .0 }, tt)))) $
+        pass1 ! (init ! 14 refl (tt, record { fits = fits-slot })) $ pass1 ! (init ! 12 refl (tt, record { fits = fits-owner })) $ pass1 ! (init ! 10 refl (tt, record { fits = fits-mark })) $ pass0 ! $ move ! (27 ∷ []) $
+        fsplit ! $ drop ! $ fsplit ! $ move ! (1 ∷ []) $ fsplit ! $ move ! (1 ∷ []) $ fsplit ! $ move ! (1 ∷ []) $ fsplit ! $ drop ! $ fsplit ! $ drop ! $ fsplit ! $ drop ! $ drop ! $ move ! (29 ∷ []) $ split ! $
         move ! (1 ∷ []) $ split ! $ move ! (1 ∷ []) $ split ! $ move ! (1 ∷ []) $ drop ! $
-        assigns ! (of-opd ! (load ! (from ! (fld ! refl (stop !))) (look-in ! 20 (sub ! 1 refl (whole !))))) (from ! (stop !)) (init ! 12 refl (tt, record { fits = room-registry .0 })) $
+        assigns ! (agg ! (and-then ! (load ! (from ! (stop !)) (look ! 18 refl)) (no-more !))) (from ! (stop !)) (init ! 14 refl (LL.lawful SharedOwnerRecordT.the-type SharedOwnerRecordL.the-laws 𝓤 H A W .typed made-8 _ is-made-8 .0)) $
+        assigns ! (of-opd ! (load ! (from ! (fld ! refl (stop !))) (look-in ! 22 (sub ! 1 refl (whole !))))) (from ! (stop !)) (init ! 12 refl (tt, record { fits = room-registry .0 })) $
         -- `slot_is_shared`
         move ! (3 ∷ []) $
         use1 W (‵ (ShrSlice (named 2) κ2 SharedReadMarkT.the-row .own (at-list γ ys) (seen ∷ [])) ⊛ ‵ (ShrSlice (named 2) κ2 SharedReadMarkT.the-row .own (at-list γ ys) (seen ∷ []))) (shr-slice-copy 𝓤 H A W (named 2) κ2 SharedReadMarkT.the-row .twice (at-list γ ys) (seen ∷ [])) $
         split ! $ nothing ! $ owned ! usize (Is usize) (uint-makes 𝓤 H A W w64) slot _ (refl, fits-slot) $ fjoin ! $ owned ! usize (Is usize) (uint-makes 𝓤 H A W w64) n _ (refl, fits-n) $ fjoin ! $ move ! (1 ∷ 0 ∷ []) $
         fjoin ! $ nothing ! $ move ! (3 ∷ 0 ∷ []) $ join ! $ use2 W (raw (Meets-slot-is-shared 𝓤 H A mem run .pre to-slot-is-shared)) goes-slot-is-shared $
-        calls-at ! fm (Meets-slot-is-shared 𝓤 H A mem run) known-slot-is-shared to-slot-is-shared (and-then ! (load ! (from ! (stop !)) (look ! 20 refl)) (and-then ! (load ! (from ! (stop !)) (look ! 26 refl)) (and-then ! (load ! (from ! (stop !)) (look ! 18 refl)) (no-more !)))) (λ v1.
+        calls-at ! fm (Meets-slot-is-shared 𝓤 H A mem run) known-slot-is-shared to-slot-is-shared (and-then ! (load ! (from ! (stop !)) (look ! 22 refl)) (and-then ! (load ! (from ! (stop !)) (look ! 28 refl)) (and-then ! (load ! (from ! (stop !)) (look ! 20 refl)) (no-more !)))) (λ v1.
         use1 W (later (some (λ (t1 : Bool). ((‵ (flft κ2 q2) ⊛ ‵ ftrue) ⊛ ‵ (bool .own t1 (v1 ∷ []))) ⊛ raw (ensured 𝓤 H A slot-is-shared-fn.ended (slot-is-shared-fn.clauses 𝓤 H A mem run) (κ2, tt) (args-slot-is-shared) tt t1)))) (id⊢ 𝓤 _) $ await ! tt $ pick ! (λ t1.
         split ! $ move ! (1 ∷ []) $
         use1 W (some (λ (ws1 : Unit {0} × (Unit {0} × (Unit {0} × Unit {0}))). ‵ (lasts slot-is-shared-fn.ended (κ2, tt) (args-slot-is-shared) ws1) ⊛ raw (fact 𝓤 (Says-slot-is-shared t1)))) (id⊢ 𝓤 _) $ pick ! (λ ws1. split ! $
         move ! (1 ∷ []) $ heard ! (Says-slot-is-shared t1) (λ e1. drop ! $ split ! $ move ! (1 ∷ []) $ peeks ! bool (Is bool) (shows 𝓤 H A bool) t1 (v1 ∷ []) (λ is1. drop ! $
-        land ! (from ! (stop !)) (init ! 10 refl (bool-lawful 𝓤 H A W .typed t1 _ is1 .0)) $ rewrite ! 10 (λ (u : Val). ‵ (fat fullShare tyBool l₉ 0 u)) (ap only (bool-tells t1 (v1 ∷ []) is1)) refl $ split ! $ move ! (1 ∷ []) $
-        drop ! $ assigns ! (addr ! (from ! (fld ! refl (hop ! (look-in ! 24 (sub ! 0 refl (whole !))) (stop !))))) (from ! (stop !)) (init ! 8 refl (tt, tt)) $
-        assigns ! (agg ! (and-then ! (load ! (from ! (stop !)) (look ! 8 refl)) (and-then ! (load ! (from ! (fld ! refl (stop !))) (look-in ! 24 (sub ! 1 refl (whole !)))) (no-more !)))) (from ! (stop !)) (init ! 6 refl (tt, (tt, (record { fits = room-reader-frames .0 }, tt)))) $
+        land ! (from ! (stop !)) (init ! 10 refl (bool-lawful 𝓤 H A W .typed t1 _ is1 .0)) $ rewrite ! 10 (λ (u : Val). ‵ (fat fullShare tyBool l₁₀ 0 u)) (ap only (bool-tells t1 (v1 ∷ []) is1)) refl $ split ! $ move ! (1 ∷ []) $
+        drop ! $ assigns ! (addr ! (from ! (fld ! refl (hop ! (look-in ! 26 (sub ! 0 refl (whole !))) (stop !))))) (from ! (stop !)) (init ! 8 refl (tt, tt)) $
+        assigns ! (agg ! (and-then ! (load ! (from ! (stop !)) (look ! 8 refl)) (and-then ! (load ! (from ! (fld ! refl (stop !))) (look-in ! 26 (sub ! 1 refl (whole !)))) (no-more !)))) (from ! (stop !)) (init ! 6 refl (tt, (tt, (record { fits = room-reader-frames .0 }, tt)))) $
         -- `update_reader`
         move ! (4 ∷ []) $
         use1 W (‵ (ShrSlice (named 1) κ1 u64 .own reader-owners (slice-vals reader-owners)) ⊛ ‵ (ShrSlice (named 1) κ1 u64 .own reader-owners (slice-vals reader-owners))) (shr-slice-copy 𝓤 H A W (named 1) κ1 u64 .twice reader-owners (slice-vals reader-owners)) $
         split ! $ nothing ! $ owned ! usize (Is usize) (uint-makes 𝓤 H A W w64) (length ys) _ (refl, room-registry .0) $ fjoin ! $ owned ! bool (Is bool) (bool-makes 𝓤 H A W) t1 _ refl $ fjoin ! $
-        owned ! u64 (Is u64) (uint-makes 𝓤 H A W w64) mark _ (refl, fits-mark) $ fjoin ! $ owned ! u64 (Is u64) (uint-makes 𝓤 H A W w64) owner _ (refl, fits-owner) $ fjoin ! $
+        owned ! u64 (Is u64) (uint-makes 𝓤 H A W w64) mark _ (refl, fits-mark) $ fjoin ! $
+        owned ! SharedOwnerRecordT.the-row (Is SharedOwnerRecordT.the-row) (LL.makes SharedOwnerRecordT.the-type SharedOwnerRecordL.the-plain 𝓤 H A) made-8 _ is-made-8 $ fjoin ! $
         owned ! usize (Is usize) (uint-makes 𝓤 H A W w64) slot _ (refl, fits-slot) $ fjoin ! $ move ! (1 ∷ 0 ∷ []) $ fjoin ! $ move ! (6 ∷ 0 ∷ []) $ fjoin ! $
         owned ! usize (Is usize) (uint-makes 𝓤 H A W w64) n _ (refl, fits-n) $ fjoin ! $ nothing ! $ move ! (5 ∷ 0 ∷ []) $ join ! $ move ! (5 ∷ 0 ∷ []) $ join ! $
         use2 W (raw (Meets-update-reader 𝓤 H A mem run .pre (to-update-reader t1))) (goes-update-reader t1) $
-        calls-at ! fm (Meets-update-reader 𝓤 H A mem run) known-update-reader (to-update-reader t1) (and-then ! (load ! (from ! (stop !)) (look ! 24 refl)) (and-then ! (load ! (from ! (stop !)) (look ! 4 refl)) (and-then ! (load ! (from ! (stop !)) (look ! 20 refl)) (and-then ! (load ! (from ! (stop !)) (look ! 16 refl)) (and-then ! (load ! (from ! (stop !)) (look ! 14 refl)) (and-then ! (load ! (from ! (stop !)) (look ! 12 refl)) (and-then ! (load ! (from ! (stop !)) (look ! 8 refl)) (and-then ! (load ! (from ! (stop !)) (look ! 10 refl)) (no-more !))))))))) (λ v2.
+        calls-at ! fm (Meets-update-reader 𝓤 H A mem run) known-update-reader (to-update-reader t1) (and-then ! (load ! (from ! (stop !)) (look ! 26 refl)) (and-then ! (load ! (from ! (stop !)) (look ! 4 refl)) (and-then ! (load ! (from ! (stop !)) (look ! 22 refl)) (and-then ! (load ! (from ! (stop !)) (look ! 18 refl)) (and-then ! (load ! (from ! (stop !)) (look ! 12 refl)) (and-then ! (load ! (from ! (stop !)) (look ! 14 refl)) (and-then ! (load ! (from ! (stop !)) (look ! 8 refl)) (and-then ! (load ! (from ! (stop !)) (look ! 10 refl)) (no-more !))))))))) (λ v2.
         use1 W (later (some (λ (t2 : ReaderReply). ((‵ (flft κ0 q0) ⊛ ‵ (flft κ1 q1) ⊛ ‵ ftrue) ⊛ ‵ (ReaderReplyT.the-row .own t2 (v2 ∷ []))) ⊛ raw (ensured 𝓤 H A update-reader-fn.ended (update-reader-fn.clauses 𝓤 H A mem run) (κ0, (κ1, tt)) (args-update-reader t1) tt t2)))) (id⊢ 𝓤 _) $ await ! tt $ pick ! (λ t2.
         split ! $ move ! (1 ∷ []) $
         use1 W (some (λ (ws2 : Unit {0} × (List ℕ × (Unit {0} × (Unit {0} × (Unit {0} × (Unit {0} × (Unit {0} × (Unit {0} × Unit {0})))))))). ‵ (lasts update-reader-fn.ended (κ0, (κ1, tt)) (args-update-reader t1) ws2) ⊛ raw (fact 𝓤 (Says-update-reader t1 t2 (ws2 .1 .0))))) (id⊢ 𝓤 _) $ pick ! (λ ws2.
         split ! $ move ! (1 ∷ []) $ heard ! (Says-update-reader t1 t2 (ws2 .1 .0)) (λ e2. fsplit ! $ drop ! $ fsplit ! $ fsplit ! $ move ! (1 ∷ []) $ feqL ! (λ long-reader-frames. move ! (1 ∷ []) $ drop ! $ move ! (1 ∷ []) $
         split ! $ move ! (1 ∷ []) $ peeks ! ReaderReplyT.the-row (Is ReaderReplyT.the-row) (shows 𝓤 H A ReaderReplyT.the-row) t2 (v2 ∷ []) (λ is2. drop ! $
-        land ! (from ! (stop !)) (init ! 27 refl (LL.lawful ReaderReplyT.the-type ReaderReplyL.the-laws 𝓤 H A W .typed t2 _ is2 .0)) $
-        rewrite ! 27 (λ (u : Val). ‵ (fat fullShare ReaderReplyL.mir l₀ 0 u)) (ap only (LL.tells ReaderReplyT.the-type ReaderReplyL.the-laws t2 (v2 ∷ []) is2)) refl $ split ! $ move ! (1 ∷ []) $ split ! $ move ! (1 ∷ []) $
+        land ! (from ! (stop !)) (init ! 29 refl (LL.lawful ReaderReplyT.the-type ReaderReplyL.the-laws 𝓤 H A W .typed t2 _ is2 .0)) $
+        rewrite ! 29 (λ (u : Val). ‵ (fat fullShare ReaderReplyL.mir l₀ 0 u)) (ap only (LL.tells ReaderReplyT.the-type ReaderReplyL.the-laws t2 (v2 ∷ []) is2)) refl $ split ! $ move ! (1 ∷ []) $ split ! $ move ! (1 ∷ []) $
         drop ! $
         -- the end
-        returns ! (look ! 28 refl) $ forget ! 6 refl $ forget ! 8 refl $ forget ! 10 refl $ forget ! 12 refl $ forget ! 14 refl $ forget ! 16 refl $ forget ! 18 refl $ forget ! 20 refl $ forget ! 22 refl $ forget ! 24 refl $
-        forget ! 26 refl $ forget ! 28 refl $ move ! (28 ∷ 29 ∷ []) $ free1 ! $ move ! (26 ∷ 27 ∷ []) $ free1 ! $ move ! (24 ∷ 25 ∷ []) $ free1 ! $ move ! (22 ∷ 23 ∷ []) $ free1 ! $ move ! (20 ∷ 21 ∷ []) $ free1 ! $
-        move ! (18 ∷ 19 ∷ []) $ free1 ! $ move ! (16 ∷ 17 ∷ []) $ free1 ! $ move ! (14 ∷ 15 ∷ []) $ free1 ! $ move ! (12 ∷ 13 ∷ []) $ free1 ! $ move ! (10 ∷ 11 ∷ []) $ free1 ! $ move ! (8 ∷ 9 ∷ []) $ free1 ! $
-        move ! (6 ∷ 7 ∷ []) $ free1 ! $ free0 ! $ nothing ! $ move ! (5 ∷ 0 ∷ []) $ join ! $ move ! (1 ∷ 0 ∷ []) $ join ! $ move ! (1 ∷ 0 ∷ []) $ join ! $ keep ! (0 ∷ 1 ∷ 2 ∷ 3 ∷ []) $
-        by ! (exits t2 (subst (Is ReaderReplyT.the-row t2) (LL.tells ReaderReplyT.the-type ReaderReplyL.the-laws t2 (v2 ∷ []) is2) is2) (ws2 .1 .0) (move-taken _ _ _ _ _ _ _ _ _ _ e2 e1) long-reader-frames))))))))))))))))))))))))
+        returns ! (look ! 30 refl) $ forget ! 6 refl $ forget ! 8 refl $ forget ! 10 refl $ forget ! 12 refl $ forget ! 14 refl $ forget ! 16 refl $ forget ! 18 refl $ forget ! 20 refl $ forget ! 22 refl $ forget ! 24 refl $
+        forget ! 26 refl $ forget ! 28 refl $ forget ! 30 refl $ move ! (30 ∷ 31 ∷ []) $ free1 ! $ move ! (28 ∷ 29 ∷ []) $ free1 ! $ move ! (26 ∷ 27 ∷ []) $ free1 ! $ move ! (24 ∷ 25 ∷ []) $ free1 ! $ move ! (22 ∷ 23 ∷ []) $
+        free1 ! $ move ! (20 ∷ 21 ∷ []) $ free1 ! $ move ! (18 ∷ 19 ∷ []) $ free1 ! $ move ! (16 ∷ 17 ∷ []) $ free1 ! $ move ! (14 ∷ 15 ∷ []) $ free1 ! $ move ! (12 ∷ 13 ∷ []) $ free1 ! $ move ! (10 ∷ 11 ∷ []) $ free1 ! $
+        move ! (8 ∷ 9 ∷ []) $ free1 ! $ move ! (6 ∷ 7 ∷ []) $ free1 ! $ free0 ! $ nothing ! $ move ! (5 ∷ 0 ∷ []) $ join ! $ move ! (1 ∷ 0 ∷ []) $ join ! $ move ! (1 ∷ 0 ∷ []) $ join ! $ keep ! (0 ∷ 1 ∷ 2 ∷ 3 ∷ []) $
+        by ! (exits t2 (subst (Is ReaderReplyT.the-row t2) (LL.tells ReaderReplyT.the-type ReaderReplyL.the-laws t2 (v2 ∷ []) is2) is2) (ws2 .1 .0) (move-taken _ _ _ _ _ _ _ _ _ _ e2 e1) long-reader-frames)))))))))))))))))))))))))
 
 module _ {M : Type 1} (𝓤 : URA M) (H : Heap 𝓤) (A : Atoms 𝓤) (W : Given 𝓤 H A) (mem : Memory → SProp 𝓤) (run : Routine → Fun 𝓤) where
   entry-walks : (C : Calls 𝓤 H) (Λ : Loops 𝓤 H) → FmC 𝓤 H (W .laws) C → Triple 𝓤 (C #reader-registry·slot-is-shared) (Meets-slot-is-shared 𝓤 H A mem run) → Triple 𝓤 (C #c-readers·registry-steps·update-reader) (Meets-update-reader 𝓤 H A mem run) → Walks 𝓤 H A entry.ended stayed (WpFn 𝓤 H C Λ code.function) (entry.clauses 𝓤 H A mem run)

@@ -18,7 +18,7 @@ enum-told c = search needs
 returns : tie.Need-returns
 returns c =
     let a = c .before .before .before .before .before .before .before .args in
-    release-unknown refusal-number (a .mode) (λ given. unregister-reader (a .n) given (a .slot) (a .owner)) _ _ _ (c .before .before .mode-of .ensures) (c .enum-told .given .1) _ refl _ _ _ _ _ _
+    release-unknown refusal-number (a .mode) (λ given. unregister-reader (a .n) given (a .slot) (a .owner .0)) _ _ _ (c .before .before .mode-of .ensures) (c .enum-told .given .1) _ refl _ _ _ _ _ _
 
 unregister-core-requires : tie.Need-unregister-core-requires
 unregister-core-requires c κs = search needs
@@ -41,7 +41,7 @@ same-length-4 c = search needs
 returns-2 : tie.Need-returns-2
 returns-2 c =
     let a = c .before .before .before .before .before .before .before .before .before .before .before .before .before .before .before .before .before .before .before .before .before .before .args in
-    release-step refusal-number (a .mode) (λ given. unregister-reader (a .n) given (a .slot) (a .owner)) _ _ _ (c .before .before .before .before .before .before .before .before .before .before .before .before .before .before .before .before .before .mode-of .ensures) _ (c .before .before .before .before .before .before .before .before .before .before .before .before .before .before .before .given .given .1) _ _ (c .release-told .ensures) _ _ _ _ _ _ _ _ _ _ (c .before .before .before .before .before .before .before .before .before .unregister-core .ensures)
+    release-step refusal-number (a .mode) (λ given. unregister-reader (a .n) given (a .slot) (a .owner .0)) _ _ _ (c .before .before .before .before .before .before .before .before .before .before .before .before .before .before .before .before .before .mode-of .ensures) _ (c .before .before .before .before .before .before .before .before .before .before .before .before .before .before .before .given .given .1) _ _ (c .release-told .ensures) _ _ _ _ _ _ _ _ _ _ (c .before .before .before .before .before .before .before .before .before .unregister-core .ensures)
 
 pub unregister-reader-spec : {M : Type 1} → statement M
 unregister-reader-spec =

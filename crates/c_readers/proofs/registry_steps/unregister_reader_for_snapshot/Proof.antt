@@ -19,7 +19,7 @@ unshare-unknown-requires : tie.Need-unshare-unknown-requires
 unshare-unknown-requires c κs = search needs
 
 returns : tie.Need-returns
-returns c = unshare-refused (c .before .before .before .before .before .before .before .before .args .mode) _ (c .before .before .before .mode-of .ensures) (λ given. unregister-reader-for-snapshot (c .before .before .before .before .before .before .before .before .args .n) given (c .before .before .before .before .before .before .before .before .args .mark) (c .before .before .before .before .before .before .before .before .args .slot) (c .before .before .before .before .before .before .before .before .args .owner)) (c .before .before .before .before .before .before .before .before .args .n) (c .before .before .before .before .before .before .before .before .args .records) (c .before .before .before .before .before .before .before .before .args .mark) (c .before .before .before .before .before .before .before .before .args .seen) _ _ _ _ (c .before .enum-told .given .1) _ (c .unshare-unknown .ensures)
+returns c = unshare-refused (c .before .before .before .before .before .before .before .before .args .mode) _ (c .before .before .before .mode-of .ensures) (λ given. unregister-reader-for-snapshot (c .before .before .before .before .before .before .before .before .args .n) given (c .before .before .before .before .before .before .before .before .args .mark) (c .before .before .before .before .before .before .before .before .args .slot) (c .before .before .before .before .before .before .before .before .args .owner .0)) (c .before .before .before .before .before .before .before .before .args .n) (c .before .before .before .before .before .before .before .before .args .records) (c .before .before .before .before .before .before .before .before .args .mark) (c .before .before .before .before .before .before .before .before .args .seen) _ _ _ _ (c .before .enum-told .given .1) _ (c .unshare-unknown .ensures)
 
 unshare-plan-requires : tie.Need-unshare-plan-requires
 unshare-plan-requires c κs = search needs
@@ -40,7 +40,7 @@ same-length-4 : tie.Need-same-length-4
 same-length-4 c = search needs
 
 returns-2 : tie.Need-returns-2
-returns-2 c = unshare-made (c .before .before .before .before .before .before .before .before .before .before .before .before .before .before .before .before .before .before .before .before .before .before .args .mode) _ (c .before .before .before .before .before .before .before .before .before .before .before .before .before .before .before .before .before .mode-of .ensures) (λ given. unregister-reader-for-snapshot (c .before .before .before .before .before .before .before .before .before .before .before .before .before .before .before .before .before .before .before .before .before .before .args .n) given (c .before .before .before .before .before .before .before .before .before .before .before .before .before .before .before .before .before .before .before .before .before .before .args .mark) (c .before .before .before .before .before .before .before .before .before .before .before .before .before .before .before .before .before .before .before .before .before .before .args .slot) (c .before .before .before .before .before .before .before .before .before .before .before .before .before .before .before .before .before .before .before .before .before .before .args .owner)) (c .before .before .before .before .before .before .before .before .before .before .before .before .before .before .before .before .before .before .before .before .before .before .args .n) (c .before .before .before .before .before .before .before .before .before .before .before .before .before .before .before .before .before .before .before .before .before .before .args .records) (c .before .before .before .before .before .before .before .before .before .before .before .before .before .before .before .before .before .before .before .before .before .before .args .mark) (c .before .before .before .before .before .before .before .before .before .before .before .before .before .before .before .before .before .before .before .before .before .before .args .seen) _ _ _ _ _ (c .before .before .before .before .before .before .before .before .before .before .before .before .before .before .before .given .given .1) _ _ _ _ (c .before .before .before .before .before .before .before .before .before .unshare-plan .result) (c .before .before .before .before .before .before .before .before .before .unshare-plan .ensures) _ (c .unshare-step .ensures)
+returns-2 c = unshare-made (c .before .before .before .before .before .before .before .before .before .before .before .before .before .before .before .before .before .before .before .before .before .before .args .mode) _ (c .before .before .before .before .before .before .before .before .before .before .before .before .before .before .before .before .before .mode-of .ensures) (λ given. unregister-reader-for-snapshot (c .before .before .before .before .before .before .before .before .before .before .before .before .before .before .before .before .before .before .before .before .before .before .args .n) given (c .before .before .before .before .before .before .before .before .before .before .before .before .before .before .before .before .before .before .before .before .before .before .args .mark) (c .before .before .before .before .before .before .before .before .before .before .before .before .before .before .before .before .before .before .before .before .before .before .args .slot) (c .before .before .before .before .before .before .before .before .before .before .before .before .before .before .before .before .before .before .before .before .before .before .args .owner .0)) (c .before .before .before .before .before .before .before .before .before .before .before .before .before .before .before .before .before .before .before .before .before .before .args .n) (c .before .before .before .before .before .before .before .before .before .before .before .before .before .before .before .before .before .before .before .before .before .before .args .records) (c .before .before .before .before .before .before .before .before .before .before .before .before .before .before .before .before .before .before .before .before .before .before .args .mark) (c .before .before .before .before .before .before .before .before .before .before .before .before .before .before .before .before .before .before .before .before .before .before .args .seen) _ _ _ _ _ (c .before .before .before .before .before .before .before .before .before .before .before .before .before .before .before .given .given .1) _ _ _ _ (c .before .before .before .before .before .before .before .before .before .unshare-plan .result) (c .before .before .before .before .before .before .before .before .before .unshare-plan .ensures) _ (c .unshare-step .ensures)
 
 pub unregister-reader-for-snapshot-spec : {M : Type 1} → statement M
 unregister-reader-for-snapshot-spec =
