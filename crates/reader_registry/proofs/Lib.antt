@@ -1,3 +1,2 @@
--- Laws of scans; the walk of a function that changes one record.
+-- Laws of scans.
 pub mod Scan
-mod Changes
