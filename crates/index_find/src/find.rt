@@ -1,14 +1,18 @@
 // find_frame: the latest frame of a page within the bounds.
 use crate::index;
-use crate::index::BLOCK_CELLS;
-use crate::index::BLOCK_ENTRIES;
+use index_hash::BLOCK_CELLS;
+use index_hash::BLOCK_ENTRIES;
 use index_hash::Probe;
 use wal_types::Header;
 ghost use mathlib.Core.Path.{_≡_};
 ghost use Prim.Native.Nat.{_+_, _-_, _*_, _<_, _≤_, min};
 ghost use lib.ListN.{length};
+ghost use Rattle.wal_types.specs.Settings.{block-entries, block-cells};
 ghost use Rattle.index_find.specs.Index.{IndexCall};
 ghost use Rattle.index_find.specs.Find.{visible, probe-block, looked-up, find-in, blocks-for, BlocksFit, upper, lower, find-frame, found-answer};
+
+// The last place in a block.
+const LAST_PLACE: usize = BLOCK_ENTRIES - 1;
 
 // A watermark narrows the upper bound, and opens the lower one.
 pub enum Watermark {
@@ -49,7 +53,7 @@ pub enum FindAnswer {
 
 // Probes block k for the page among its visible entries.
 fn probe_block(pages: &[u64], hash: &[u16], k: usize, page_id: u64, visible_slots: usize) -> Probe
-    requires { ⌜ ((k < 16) × (8192 * k + 8192 ≤ length (now hash))) × (4096 * k + 4096 ≤ length (now pages)) ⌝ }
+    requires { ⌜ ((k < 16) × (block-cells * k + block-cells ≤ length (now hash))) × (block-entries * k + block-entries ≤ length (now pages)) ⌝ }
     ensures { λ r. ⌜ r ≡ probe-block k «page_id» «visible_slots» (now (pages .entry)) (now (hash .entry)) ⌝ }
 {
     let a = BLOCK_CELLS * k;
@@ -62,7 +66,7 @@ fn probe_block(pages: &[u64], hash: &[u16], k: usize, page_id: u64, visible_slot
 
 // How many of the visible entries are in the block that starts at entry first.
 fn entries_of_block(visible_slots: usize, first: usize) -> usize
-    ensures { λ r. ⌜ r ≡ min («visible_slots» - first) 4096 ⌝ }
+    ensures { λ r. ⌜ r ≡ min («visible_slots» - first) block-entries ⌝ }
 {
     if visible_slots <= first {
         return 0;
@@ -84,7 +88,7 @@ fn find_in_block(
     min_frame: u64,
     max_frame: u64,
 ) -> Lookup
-    requires { ⌜ ((k < 16) × (8192 * k + 8192 ≤ length (now hash))) × ((4096 * k + 4096 ≤ length (now pages)) × (4096 * k + 4096 ≤ length (now frames))) ⌝ }
+    requires { ⌜ ((k < 16) × (block-cells * k + block-cells ≤ length (now hash))) × ((block-entries * k + block-entries ≤ length (now pages)) × (block-entries * k + block-entries ≤ length (now frames))) ⌝ }
     ensures { λ r. ⌜ r ≡ looked-up k (now (frames .entry)) «min_frame» «max_frame» (probe-block k «page_id» «visible_slots» (now (pages .entry)) (now (hash .entry))) ⌝ }
 {
     let Probe::At(local_entry) = probe_block(pages, hash, k, page_id, visible_slots) else {
@@ -114,7 +118,7 @@ fn find_in_blocks(
     requires { ⌜ BlocksFit «visible_slots» (length (now pages)) (length (now frames)) (length (now hash)) ⌝ }
     ensures { λ r. ⌜ r ≡ find-in (blocks-for «visible_slots») «visible_slots» (now (pages .entry)) (now (frames .entry)) (now (hash .entry)) «page_id» «min_frame» «max_frame» ⌝ }
 {
-    let mut k = (visible_slots + 4095) / BLOCK_ENTRIES;
+    let mut k = (visible_slots + LAST_PLACE) / BLOCK_ENTRIES;
     while 0 < k {
         k -= 1;
         let found = find_in_block(

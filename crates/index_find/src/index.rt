@@ -1,19 +1,16 @@
 // What the calls on the index share: the refusals that all of them have, and one block's hash as a part of the whole.
+use index_hash::BLOCK_CELLS;
+use index_hash::BLOCK_ENTRIES;
 use index_hash::Cell;
 use wal_types::FRAME_INDEX_BLOCK_CAPACITY;
-use wal_types::FRAME_INDEX_BLOCK_HASH_SLOTS;
 use wal_types::Header;
 use wal_types::refusal;
 ghost use mathlib.Core.Path.{_≡_};
 ghost use Prim.Native.Nat.{_+_, _*_, _<_, _≤_};
 ghost use lib.ListN.{length, set};
+ghost use Rattle.wal_types.specs.Settings.{block-entries, block-cells};
 ghost use Rattle.index_hash.specs.Block.{cleared, empty-cell, built};
 ghost use Rattle.index_find.specs.Index.{bad-settings, short-index, index-refusal, block-cells-of, block-pages-of, with-block};
-
-// A block's entries and hash cells, as indexes.
-pub const BLOCK_ENTRIES: usize = FRAME_INDEX_BLOCK_CAPACITY as usize;
-
-pub const BLOCK_CELLS: usize = FRAME_INDEX_BLOCK_HASH_SLOTS as usize;
 
 fn bad_settings(capacity: u32, max_blocks: u32, header: Header) -> bool
     ensures { λ r. ⌜ r ≡ bad-settings capacity «max_blocks» header ⌝ }
@@ -75,7 +72,7 @@ pub fn index_refusal(
 
 // Clears block k's hash.
 pub fn clear_block(hash: &mut [u16], k: usize)
-    requires { ⌜ (k < 16) × (8192 * k + 8192 ≤ length (now hash)) ⌝ }
+    requires { ⌜ (k < 16) × (block-cells * k + block-cells ≤ length (now hash)) ⌝ }
     ensures { λ _. ⌜ now (hash .exit) ≡ with-block k cleared (now (hash .entry)) ⌝ }
 {
     let a = BLOCK_CELLS * k;
@@ -85,7 +82,7 @@ pub fn clear_block(hash: &mut [u16], k: usize)
 
 // The cell of block k's hash for a page's next entry.
 pub fn cell_in_block(hash: &[u16], k: usize, page_id: u64) -> Cell
-    requires { ⌜ (k < 16) × (8192 * k + 8192 ≤ length (now hash)) ⌝ }
+    requires { ⌜ (k < 16) × (block-cells * k + block-cells ≤ length (now hash)) ⌝ }
     ensures { λ r. ⌜ r ≡ empty-cell (block-cells-of k (now (hash .entry))) «page_id» ⌝ }
 {
     let a = BLOCK_CELLS * k;
@@ -95,7 +92,7 @@ pub fn cell_in_block(hash: &[u16], k: usize, page_id: u64) -> Cell
 
 // That cell names the entry at a place of block k.
 pub fn name_in_block(hash: &mut [u16], k: usize, cell: usize, local_index: usize)
-    requires { ⌜ ((k < 16) × (8192 * k + 8192 ≤ length (now hash))) × ((cell < 8192) × («local_index» < 4096)) ⌝ }
+    requires { ⌜ ((k < 16) × (block-cells * k + block-cells ≤ length (now hash))) × ((cell < block-cells) × («local_index» < block-entries)) ⌝ }
     ensures { λ _. ⌜ now (hash .exit) ≡ with-block k (set (block-cells-of k (now (hash .entry))) cell («local_index» + 1)) (now (hash .entry)) ⌝ }
 {
     let a = BLOCK_CELLS * k;
@@ -105,7 +102,7 @@ pub fn name_in_block(hash: &mut [u16], k: usize, cell: usize, local_index: usize
 
 // Block k's hash is rebuilt for its first entries.
 pub fn rebuild_block(hash: &mut [u16], pages: &[u64], k: usize, entries: usize)
-    requires { ⌜ ((k < 16) × (8192 * k + 8192 ≤ length (now hash))) × ((4096 * k + 4096 ≤ length (now pages)) × (entries ≤ 4096)) ⌝ }
+    requires { ⌜ ((k < 16) × (block-cells * k + block-cells ≤ length (now hash))) × ((block-entries * k + block-entries ≤ length (now pages)) × (entries ≤ block-entries)) ⌝ }
     ensures { λ _. ⌜ now (hash .exit) ≡ with-block k (built (block-pages-of k (now (pages .entry))) entries) (now (hash .entry)) ⌝ }
 {
     let a = BLOCK_CELLS * k;

@@ -5,6 +5,7 @@ use mathlib.Core.List.{List, [], _∷_}
 use Prim.Native.Nat.{ℕ, zero, suc, _+_, _-_}
 use lib.Dec.{eqb, ltb}
 use lib.ListN.{getD, set, replicate}
+use Rattle.wal_types.specs.Settings.{block-cells}
 use Rattle.index_hash.specs.declared.Cell.{Cell}
 use Rattle.index_hash.specs.declared.Cell.the-variants.{Empty, Full}
 use Rattle.index_hash.specs.declared.Probe.{Probe}
@@ -13,7 +14,7 @@ use Rattle.index_hash.specs.Home.{home, next-cell}
 
 -- every cell empty
 unfoldable pub cleared : List ℕ
-cleared = replicate 8192 0
+cleared = replicate block-cells 0
 
 -- the first empty cell from this one on, within so many cells
 unfoldable pub empty-from : ℕ → List ℕ → ℕ → Cell
@@ -22,7 +23,7 @@ empty-from (suc left) h cell = cond (eqb (getD h cell 0) 0) (Empty cell) (empty-
 
 -- the cell where a page's entry goes: the first empty one from its home on
 unfoldable pub empty-cell : List ℕ → ℕ → Cell
-empty-cell h page = empty-from 8192 h (home page)
+empty-cell h page = empty-from block-cells h (home page)
 
 -- the table with the entry at this place of the block named in that cell
 abbrev pub named-in : List ℕ → ℕ → Cell → List ℕ
@@ -51,7 +52,7 @@ probe-from (suc left) h pages page visible cell latest =
 
 -- the whole probe: from the page's home, with nothing met
 unfoldable pub probe : List ℕ → List ℕ → ℕ → ℕ → Probe
-probe h pages page visible = probe-from 8192 h pages page visible (home page) Nothing
+probe h pages page visible = probe-from block-cells h pages page visible (home page) Nothing
 
 -- How many cells the probe looks at. The empty cell that ends it counts, and so does a cell that names an entry beyond the
 -- visible ones.
@@ -65,7 +66,7 @@ looked-from (suc left) h visible cell =
 
 -- of the whole probe
 unfoldable pub looked : List ℕ → ℕ → ℕ → ℕ
-looked h page visible = looked-from 8192 h visible (home page)
+looked h page visible = looked-from block-cells h visible (home page)
 
 -- the number of used cells
 unfoldable pub used : List ℕ → ℕ

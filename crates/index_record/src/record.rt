@@ -4,13 +4,14 @@ use index_end::cells::IndexCells;
 use index_end::place;
 use index_end::place::Place;
 use index_find::index;
-use index_find::index::BLOCK_ENTRIES;
+use index_hash::BLOCK_ENTRIES;
 use index_hash::Cell;
 use wal_types::Header;
 use wal_types::refusal;
 ghost use mathlib.Core.Path.{_≡_};
 ghost use Prim.Native.Nat.{_+_, _/_, _%_, _<_};
 ghost use lib.ListN.{length, set};
+ghost use Rattle.wal_types.specs.Settings.{block-entries, block-cells};
 ghost use Rattle.index_hash.specs.Block.{cleared, inserted};
 ghost use Rattle.index_end.specs.Cells.{with-cells};
 ghost use Rattle.index_find.specs.Index.{block-cells-of, with-block, HasRoom, IndexCall};
@@ -48,7 +49,7 @@ fn enter_first(
     frame_id: u64,
 )
     requires { ⌜ HasRoom n (length (now pages)) (length (now frames)) (length (now hash)) ⌝ }
-    ensures { λ _. ⌜ (now (pages .exit) ≡ set (now (pages .entry)) n «page_id») × ((now (frames .exit) ≡ set (now (frames .entry)) n «frame_id») × (now (hash .exit) ≡ with-block (n / 4096) (inserted cleared 0 «page_id») (now (hash .entry)))) ⌝ }
+    ensures { λ _. ⌜ (now (pages .exit) ≡ set (now (pages .entry)) n «page_id») × ((now (frames .exit) ≡ set (now (frames .entry)) n «frame_id») × (now (hash .exit) ≡ with-block (n / block-entries) (inserted cleared 0 «page_id») (now (hash .entry)))) ⌝ }
 {
     let k = n / BLOCK_ENTRIES;
     index::clear_block(hash, k);
@@ -68,8 +69,8 @@ fn enter_next(
     page_id: u64,
     frame_id: u64,
 )
-    requires { ⌜ HasRoom n (length (now pages)) (length (now frames)) (length (now hash)) × (cell < 8192) ⌝ }
-    ensures { λ _. ⌜ (now (pages .exit) ≡ set (now (pages .entry)) n «page_id») × ((now (frames .exit) ≡ set (now (frames .entry)) n «frame_id») × (now (hash .exit) ≡ with-block (n / 4096) (set (block-cells-of (n / 4096) (now (hash .entry))) cell (n % 4096 + 1)) (now (hash .entry)))) ⌝ }
+    requires { ⌜ HasRoom n (length (now pages)) (length (now frames)) (length (now hash)) × (cell < block-cells) ⌝ }
+    ensures { λ _. ⌜ (now (pages .exit) ≡ set (now (pages .entry)) n «page_id») × ((now (frames .exit) ≡ set (now (frames .entry)) n «frame_id») × (now (hash .exit) ≡ with-block (n / block-entries) (set (block-cells-of (n / block-entries) (now (hash .entry))) cell (n % block-entries + 1)) (now (hash .entry)))) ⌝ }
 {
     pages[n] = page_id;
     frames[n] = frame_id;

@@ -3,7 +3,7 @@ use index_end::cells;
 use index_end::cells::IndexCells;
 use index_end::kept;
 use index_find::index;
-use index_find::index::BLOCK_ENTRIES;
+use index_hash::BLOCK_ENTRIES;
 use wal_types::Header;
 ghost use Rattle.index_end.specs.Cells.{with-cells};
 ghost use Rattle.index_find.specs.Index.{IndexCall};

@@ -1,3 +1,3 @@
--- Laws of the gathering: marks, the first entry of a page, and turns.
-pub mod Marks
+-- Laws of the gathering: the values seen, the first entry of a page, and turns.
+pub mod SeenValues
 pub mod Gathered

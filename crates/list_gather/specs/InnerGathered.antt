@@ -1,4 +1,4 @@
--- How the named entries are gathered: by marks, from the last down; and the first entry of a page. Assumes nothing.
+-- How the named entries are gathered: by the values seen in the cells, from the last down; and the first entry of a page. Assumes nothing.
 use mathlib.Core.Bool.{Bool, _||_, cond}
 use mathlib.Core.List.{List, [], _∷_}
 use Prim.Native.Nat.{ℕ, zero, suc}
@@ -7,9 +7,9 @@ use lib.ListN.{getD, take, drop}
 use Rattle.list_sort.specs.InnerSorted.{having, page-of}
 use Rattle.list_gather.specs.Named.{has-cell, named}
 
--- the value has a mark, or one of the cells from the i-th on has it
+-- the value is noted, or one of the cells from the i-th on has it
 unfoldable pub known : List ℕ → ℕ → List ℕ → ℕ → Bool
-known cells i marks v = eqb (getD marks v 0) 1 || has-cell (drop i cells) v
+known cells i seen v = eqb (getD seen v 0) 1 || has-cell (drop i cells) v
 
 -- the named ones of the first n entries, from the last down
 unfoldable pub down : List ℕ → ℕ → List ℕ

@@ -6,8 +6,8 @@
 // never made, lets an entry through that the choice drops after the sort; it cannot leave a page out. That is why the contract
 // says no more than each page's first. An exact table would need room for 65,536 pages, cleared at every call. Without the
 // guesses a list over 65,536 entries of 100 pages took three times as long; where all pages differ, as long as with them.
-use index_find::index::BLOCK_CELLS;
-use index_find::index::BLOCK_ENTRIES;
+use index_hash::BLOCK_CELLS;
+use index_hash::BLOCK_ENTRIES;
 use list_sort::cell_of;
 ghost use mathlib.Core.Path.{_≡_};
 ghost use mathlib.Core.Bool.{true};
@@ -15,6 +15,8 @@ ghost use mathlib.Core.List.{[], _∷_, _++_};
 ghost use Prim.Native.Nat.{ℕ, _+_, _*_, _/_, _<_, _≤_};
 ghost use lib.Dec.{eqb};
 ghost use lib.ListN.{length, getD, take};
+ghost use Rattle.wal_types.specs.Settings.{block-entries, block-cells};
+ghost use Rattle.index_find.specs.Find.{blocks-for};
 ghost use Rattle.list_gather.specs.Named.{has-cell};
 ghost use Rattle.list_gather.specs.InnerGathered.{known, down, head-of};
 
@@ -42,33 +44,33 @@ fn empty_run(cells: &[u16], from: usize) -> bool
     sum_of_four(cells, from) + sum_of_four(cells, from + 4) == 0
 }
 
-// A mark for each value of at most 4,096 that one of eight cells has.
-fn mark_run(cells: &[u16], from: usize, marks: &mut [u8])
-    requires { ⌜ (from + 8 ≤ length (now cells)) × (length (now marks) ≡ 4097) ⌝ }
-    ensures { λ _. ⌜ ((v : ℕ) → v < 4097 → known (now (cells .entry)) (from + 8) (now (marks .exit)) v ≡ known (now (cells .entry)) from (now (marks .entry)) v) ⌝ }
+// Notes each value of at most 4,096 that one of eight cells has.
+fn note_run(cells: &[u16], from: usize, seen: &mut [u8])
+    requires { ⌜ (from + 8 ≤ length (now cells)) × (length (now seen) ≡ block-entries + 1) ⌝ }
+    ensures { λ _. ⌜ ((v : ℕ) → v < block-entries + 1 → known (now (cells .entry)) (from + 8) (now (seen .exit)) v ≡ known (now (cells .entry)) from (now (seen .entry)) v) ⌝ }
 {
     let mut i = 0;
     while i < 8usize {
         let v = wide(cells[from + i]);
         i += 1;
         if v <= BLOCK_ENTRIES {
-            marks[v] = 1;
+            seen[v] = 1;
         }
     }
 }
 
-// A mark for each value from 1 to 4,096 that a cell of the block has. Cells name entries in the order of their homes; by the
-// marks the entries are then met from the last down.
-fn mark_cells(cells: &[u16], marks: &mut [u8])
-    requires { ⌜ (length (now cells) ≡ 8192) × ((length (now marks) ≡ 4097) × ((v : ℕ) → v < 4097 → getD (now marks) v 0 ≡ 0)) ⌝ }
-    ensures { λ _. ⌜ ((v : ℕ) → 0 < v → v < 4097 → eqb (getD (now (marks .exit)) v 0) 1 ≡ has-cell (now (cells .entry)) v) ⌝ }
+// Notes each value from 1 to 4,096 that a cell of the block has. Cells name entries in the order of their homes; by what is
+// noted the entries are then met from the last down.
+fn note_cells(cells: &[u16], seen: &mut [u8])
+    requires { ⌜ (length (now cells) ≡ block-cells) × ((length (now seen) ≡ block-entries + 1) × ((v : ℕ) → v < block-entries + 1 → getD (now seen) v 0 ≡ 0)) ⌝ }
+    ensures { λ _. ⌜ ((v : ℕ) → 0 < v → v < block-entries + 1 → eqb (getD (now (seen .exit)) v 0) 1 ≡ has-cell (now (cells .entry)) v) ⌝ }
 {
     let mut next = 0;
     while next < BLOCK_CELLS {
         let from = next;
         next += 8;
         if !empty_run(cells, from) {
-            mark_run(cells, from, marks);
+            note_run(cells, from, seen);
         }
     }
 }
@@ -104,19 +106,19 @@ fn gather_block(
     before: usize,
     guesses: &mut [u16],
 ) -> usize
-    requires { ⌜ ((k < 16) × (8192 * k + 8192 ≤ length (now hash))) × (((4096 * k ≤ end) × (end ≤ 4096 * k + 4096)) × ((before + end ≤ length (now list)) × ((before + end ≤ 65536) × (length (now guesses) ≡ 1024)))) ⌝ }
-    ensures { λ r. ⌜ (r + 4096 * k ≤ before + end) × ((page : ℕ) → head-of (now (pages .entry)) page (take r (now (list .exit)) ++ down (now (hash .entry)) (4096 * k)) ≡ head-of (now (pages .entry)) page (take before (now (list .entry)) ++ down (now (hash .entry)) end)) ⌝ }
+    requires { ⌜ ((k < 16) × (block-cells * k + block-cells ≤ length (now hash))) × (((block-entries * k ≤ end) × (end ≤ block-entries * k + block-entries)) × ((before + end ≤ length (now list)) × ((before + end ≤ 65536) × (length (now guesses) ≡ 1024)))) ⌝ }
+    ensures { λ r. ⌜ (r + block-entries * k ≤ before + end) × ((page : ℕ) → head-of (now (pages .entry)) page (take r (now (list .exit)) ++ down (now (hash .entry)) (block-entries * k)) ≡ head-of (now (pages .entry)) page (take before (now (list .entry)) ++ down (now (hash .entry)) end)) ⌝ }
 {
-    let mut marks = [0u8; 4097];
+    let mut seen = [0u8; 4097];
     let a = BLOCK_CELLS * k;
     let e = a + BLOCK_CELLS;
-    mark_cells(&hash[a..e], &mut marks);
+    note_cells(&hash[a..e], &mut seen);
     let first = BLOCK_ENTRIES * k;
     let mut count = before;
     let mut n = end;
     while first < n {
         n -= 1;
-        if marks[n - first + 1] == 1 {
+        if seen[n - first + 1] == 1 {
             let page = cell_of(pages, n as u16);
             let slot = (page % 1024) as usize;
             let guess = wide(guesses[slot]);
@@ -132,7 +134,7 @@ fn gather_block(
 // Block by block from the last visible one down. Answers how many entries are in the list; one may be left out where a later
 // one of its page is there.
 pub fn gather(pages: &[u64], hash: &[u16], visible: usize, list: &mut [u16]) -> usize
-    requires { ⌜ ((visible ≤ 65536) × (8192 * ((visible + 4095) / 4096) ≤ length (now hash))) × (visible ≤ length (now list)) ⌝ }
+    requires { ⌜ ((visible ≤ 65536) × (block-cells * blocks-for visible ≤ length (now hash))) × (visible ≤ length (now list)) ⌝ }
     ensures { λ r. ⌜ (r ≤ visible) × ((page : ℕ) → head-of (now (pages .entry)) page (take r (now (list .exit))) ≡ head-of (now (pages .entry)) page (down (now (hash .entry)) visible)) ⌝ }
 {
     let mut guesses = [0u16; 1024];

@@ -1,7 +1,7 @@
 // iter_latest_frames: each page's latest entry with a frame of at most max, listed if its frame is at least min, by rising
 // page. The entries that the hash names are gathered from the last down, sorted by page, and the first of each page is taken.
 // All of it is counted before the first output cell is written: a list that is refused for too few of them (5) has written none.
-use index_find::index::BLOCK_ENTRIES;
+use index_hash::BLOCK_ENTRIES;
 use list_choose::choose;
 use list_gather::gather;
 use wal_types::Header;
@@ -9,9 +9,11 @@ use wal_types::refusal;
 ghost use mathlib.Core.Path.{_≡_};
 ghost use Prim.Native.Nat.{_+_, _*_, _/_, _≤_};
 ghost use lib.ListN.{length, take};
+ghost use Rattle.wal_types.specs.Settings.{block-entries, block-cells};
 ghost use Rattle.wal_types.specs.Memory.{Memory, Process};
 ghost use Rattle.list_choose.specs.Chosen.{in-bounds};
 ghost use Rattle.list_latest.specs.Latest.{latest, iter-latest-frames};
+ghost use Rattle.index_find.specs.Find.{blocks-for};
 ghost use Rattle.index_find.specs.Index.{index-in};
 ghost use Rattle.list_latest.specs.InnerResult.{Lists};
 ghost use Rattle.list_latest.specs.InnerWritten.{Writes};
@@ -34,7 +36,7 @@ fn latest_entries(
     list: &mut [u16],
     spare: &mut [u16],
 ) -> usize
-    requires { ⌜ ((visible ≤ 65536) × (8192 * ((visible + 4095) / 4096) ≤ length (now hash))) × ((visible ≤ length (now list)) × (visible ≤ length (now spare))) ⌝ }
+    requires { ⌜ ((visible ≤ 65536) × (block-cells * blocks-for visible ≤ length (now hash))) × ((visible ≤ length (now list)) × (visible ≤ length (now spare))) ⌝ }
     ensures { λ r. ⌜ (r ≤ visible) × (take r (now (spare .exit)) ≡ in-bounds (now (frames .entry)) «min_frame» «max_frame» (latest (now (pages .entry)) (now (hash .entry)) visible)) ⌝ }
 {
     let gathered = gather::gather(pages, hash, visible, list);
@@ -62,7 +64,7 @@ fn list_in(
     list: &mut [u16],
     spare: &mut [u16],
 ) -> ListAnswer
-    requires { ⌜ ((visible ≤ 65536) × (8192 * ((visible + 4095) / 4096) ≤ length (now hash))) × ((visible ≤ length (now list)) × (visible ≤ length (now spare))) ⌝ }
+    requires { ⌜ ((visible ≤ 65536) × (block-cells * blocks-for visible ≤ length (now hash))) × ((visible ≤ length (now list)) × (visible ≤ length (now spare))) ⌝ }
     ensures { λ r. ⌜ Writes (now (pages .entry)) (now (frames .entry)) (in-bounds (now (frames .entry)) «min_frame» «max_frame» (latest (now (pages .entry)) (now (hash .entry)) visible)) r (now («out_pages» .entry)) (now («out_frames» .entry)) (now («out_pages» .exit)) (now («out_frames» .exit)) ⌝ }
 {
     let count = latest_entries(
@@ -97,7 +99,7 @@ fn list_small(
     out_pages: &mut [u64],
     out_frames: &mut [u64],
 ) -> ListAnswer
-    requires { ⌜ (visible ≤ 4096) × (8192 * ((visible + 4095) / 4096) ≤ length (now hash)) ⌝ }
+    requires { ⌜ (visible ≤ block-entries) × (block-cells * blocks-for visible ≤ length (now hash)) ⌝ }
     ensures { λ r. ⌜ Writes (now (pages .entry)) (now (frames .entry)) (in-bounds (now (frames .entry)) «min_frame» «max_frame» (latest (now (pages .entry)) (now (hash .entry)) visible)) r (now («out_pages» .entry)) (now («out_frames» .entry)) (now («out_pages» .exit)) (now («out_frames» .exit)) ⌝ }
 {
     let mut list = [0u16; BLOCK_ENTRIES];
@@ -127,7 +129,7 @@ fn list_large(
     out_pages: &mut [u64],
     out_frames: &mut [u64],
 ) -> ListAnswer
-    requires { ⌜ (visible ≤ 65536) × (8192 * ((visible + 4095) / 4096) ≤ length (now hash)) ⌝ }
+    requires { ⌜ (visible ≤ 65536) × (block-cells * blocks-for visible ≤ length (now hash)) ⌝ }
     ensures { λ r. ⌜ Writes (now (pages .entry)) (now (frames .entry)) (in-bounds (now (frames .entry)) «min_frame» «max_frame» (latest (now (pages .entry)) (now (hash .entry)) visible)) r (now («out_pages» .entry)) (now («out_frames» .entry)) (now («out_pages» .exit)) (now («out_frames» .exit)) ⌝ }
 {
     let mut list = [0u16; 65536];

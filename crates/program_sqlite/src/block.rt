@@ -1,10 +1,13 @@
 // A recorded block: its lines, and how its hash cells differ from those that its pages give.
+use index_hash::BLOCK_CELLS;
+use index_hash::BLOCK_ENTRIES;
 use program_lines::line::Number;
 use program_lines::line::byte_at;
 use program_lines::line::field_count;
 use program_lines::line::number_field;
 ghost use mathlib.Core.Path.{_≡_};
 ghost use lib.ListN.{length};
+ghost use Rattle.wal_types.specs.Settings.{block-cells};
 
 fn cell_at(cells: &[u16], i: usize) -> u16 {
     if i < cells.len() { cells[i] } else { 0 }
@@ -58,12 +61,16 @@ fn one_more(count: usize, is_counted: bool) -> usize {
     if !is_counted {
         return count;
     }
-    if count < 8192 { count + 1 } else { count }
+    if count < BLOCK_CELLS {
+        count + 1
+    } else {
+        count
+    }
 }
 
 fn count_differences(hash: &[u16], cells: &[u16]) -> usize {
     let mut count = 0;
-    for cell in 0..8192usize {
+    for cell in 0..BLOCK_CELLS {
         count = one_more(count, cell_at(hash, cell) != cell_at(cells, cell));
     }
     count
@@ -72,13 +79,13 @@ fn count_differences(hash: &[u16], cells: &[u16]) -> usize {
 // How many cells differ after the hash is rebuilt from the pages; all of them, where there are more entries than a
 // block can have.
 pub fn differences(pages: &[u64], entries: usize, cells: &[u16], hash: &mut [u16]) -> usize
-    requires { ⌜ length (now hash) ≡ 8192 ⌝ }
+    requires { ⌜ length (now hash) ≡ block-cells ⌝ }
 {
-    if 4096 < entries {
-        return 8192;
+    if BLOCK_ENTRIES < entries {
+        return BLOCK_CELLS;
     }
     if pages.len() < entries {
-        return 8192;
+        return BLOCK_CELLS;
     }
     index_hash::rebuild_frame_index_block_hash(hash, pages, entries);
     count_differences(hash, cells)

@@ -1,4 +1,4 @@
-use Rattle.list_gather.proofs.Marks.{eight-empty}
+use Rattle.list_gather.proofs.SeenValues.{eight-empty}
 use borrow.Author.Tests.{eqb-true}
 use borrow.Author.Needs.{needs}
 use Rattle.list_gather.proofs.gather.empty_run.Statement.{statement}

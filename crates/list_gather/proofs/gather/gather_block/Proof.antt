@@ -1,4 +1,4 @@
-use Rattle.list_gather.proofs.Marks.{length-part, named-by-mark}
+use Rattle.list_gather.proofs.SeenValues.{length-part, named-if-seen}
 use Rattle.list_gather.proofs.Gathered.{Gathers, gathers-all, gathers-unnamed, gathers-skip, gathers-append, gathers-end}
 use Rattle.list_gather.specs.InnerGathered.{down}
 use borrow.Author.Tests.{eq-eqb, ne-eqb, not-false}
@@ -12,10 +12,10 @@ use Rattle.list_gather.proofs.gather.gather_block.Statement.{statement}
 use Rattle.list_gather.proofs.gather.gather_block.Tie as tie
 
 abbrev Inv-loop : tie.InvT-loop
-Inv-loop pages hash k end list₀ before guesses₀ marks a e first count₀ n₀ list guesses count n = ((first ≤ n) × (n ≤ end)) × ((count + n ≤ before + end) × (((length list ≡ length list₀) × (length guesses ≡ 1024)) × Gathers pages hash (take count list) n (take before list₀ ++ down hash end)))
+Inv-loop pages hash k end list₀ before guesses₀ seen a e first count₀ n₀ list guesses count n = ((first ≤ n) × (n ≤ end)) × ((count + n ≤ before + end) × (((length list ≡ length list₀) × (length guesses ≡ 1024)) × Gathers pages hash (take count list) n (take before list₀ ++ down hash end)))
 
 abbrev μ-loop : tie.MeasureT-loop
-μ-loop pages hash k end list₀ before guesses₀ marks a e first count₀ n₀ list guesses count n = n - first
+μ-loop pages hash k end list₀ before guesses₀ seen a e first count₀ n₀ list guesses count n = n - first
 
 mul-a : tie.Need-mul-a Inv-loop μ-loop
 mul-a c = omega arith
@@ -23,23 +23,23 @@ mul-a c = omega arith
 add-e : tie.Need-add-e Inv-loop μ-loop
 add-e c = omega arith
 
-mul-mark-cells : tie.Need-mul-mark-cells Inv-loop μ-loop
-mul-mark-cells c = omega arith
+mul-note-cells : tie.Need-mul-note-cells Inv-loop μ-loop
+mul-note-cells c = omega arith
 
-sub-mark-cells : tie.Need-sub-mark-cells Inv-loop μ-loop
-sub-mark-cells c = omega arith
+sub-note-cells : tie.Need-sub-note-cells Inv-loop μ-loop
+sub-note-cells c = omega arith
 
-part-mark-cells-start : tie.Need-part-mark-cells-start Inv-loop μ-loop
-part-mark-cells-start c = omega arith
+part-note-cells-start : tie.Need-part-note-cells-start Inv-loop μ-loop
+part-note-cells-start c = omega arith
 
-part-mark-cells-end : tie.Need-part-mark-cells-end Inv-loop μ-loop
-part-mark-cells-end c = omega arith
+part-note-cells-end : tie.Need-part-note-cells-end Inv-loop μ-loop
+part-note-cells-end c = omega arith
 
-slice-aggregate-mark-cells : tie.Need-slice-aggregate-mark-cells Inv-loop μ-loop
-slice-aggregate-mark-cells c = search needs
+slice-aggregate-note-cells : tie.Need-slice-aggregate-note-cells Inv-loop μ-loop
+slice-aggregate-note-cells c = search needs
 
-mark-cells-requires : tie.Need-mark-cells-requires Inv-loop μ-loop
-mark-cells-requires c κs = (length-part (c .before .before .before .before .before .before .args .k) (c .before .before .before .before .before .before .args .hash .now) (omega arith), (omega arith, λ v b. getD-replicate 4097 v 0 0 b))
+note-cells-requires : tie.Need-note-cells-requires Inv-loop μ-loop
+note-cells-requires c κs = (length-part (c .before .before .before .before .before .before .args .k) (c .before .before .before .before .before .before .args .hash .now) (omega arith), (omega arith, λ v b. getD-replicate 4097 v 0 0 b))
 
 mul-first : tie.Need-mul-first Inv-loop μ-loop
 mul-first c = omega arith
@@ -88,7 +88,7 @@ loop-less c = omega arith
 
 loop-again : tie.Need-loop-again Inv-loop μ-loop
 loop-again c =
-    let m = named-by-mark _ (c .before .before .before .before .before .before .before .before .before .before .before .before .before .before .before .before .before .mark-cells .last .1 .0) (c .before .before .before .before .before .before .before .before .before .before .before .before .before .before .before .before .before .before .before .before .before .before .before .before .args .k) (c .before .before .before .before .before .before .before .before .before .before .before .before .before .before .before .before .before .mark-cells .ensures) (c .before .before .before .before .before .before .before .before .before .before .before .before .before .before .before .loop .n - 1) (omega arith) (omega arith) ∙ eq-eqb _ _ (c .before .before .before .before .before .before .before .before .before .before .before .before .before .if1 .taken) in
+    let m = named-if-seen _ (c .before .before .before .before .before .before .before .before .before .before .before .before .before .before .before .before .before .note-cells .last .1 .0) (c .before .before .before .before .before .before .before .before .before .before .before .before .before .before .before .before .before .before .before .before .before .before .before .before .args .k) (c .before .before .before .before .before .before .before .before .before .before .before .before .before .before .before .before .before .note-cells .ensures) (c .before .before .before .before .before .before .before .before .before .before .before .before .before .before .before .loop .n - 1) (omega arith) (omega arith) ∙ eq-eqb _ _ (c .before .before .before .before .before .before .before .before .before .before .before .before .before .if1 .taken) in
     ((omega arith, omega arith), (omega arith, ((omega arith, omega arith), gathers-append _ _ _ _ _ (c .before .before .before .before .before .before .before .before .before .before .before .before .before .before .before .loop .inv .1 .1 .1) (omega arith) m _ (c .before .before .before .before .append .ensures))))
 
 loop-less-2 : tie.Need-loop-less-2 Inv-loop μ-loop
@@ -96,7 +96,7 @@ loop-less-2 c = omega arith
 
 loop-again-2 : tie.Need-loop-again-2 Inv-loop μ-loop
 loop-again-2 c =
-    let m = named-by-mark _ (c .before .before .before .before .before .before .before .before .before .before .mark-cells .last .1 .0) (c .before .before .before .before .before .before .before .before .before .before .before .before .before .before .before .before .before .args .k) (c .before .before .before .before .before .before .before .before .before .before .mark-cells .ensures) (c .before .before .before .before .before .before .before .before .loop .n - 1) (omega arith) (omega arith) ∙ eq-eqb _ _ (c .before .before .before .before .before .before .if1 .taken) in
+    let m = named-if-seen _ (c .before .before .before .before .before .before .before .before .before .before .note-cells .last .1 .0) (c .before .before .before .before .before .before .before .before .before .before .before .before .before .before .before .before .before .args .k) (c .before .before .before .before .before .before .before .before .before .before .note-cells .ensures) (c .before .before .before .before .before .before .before .before .loop .n - 1) (omega arith) (omega arith) ∙ eq-eqb _ _ (c .before .before .before .before .before .before .if1 .taken) in
     let g = c .before .is-gathered .ensures (not-false _ (c .if2 .left)) in
     ((omega arith, omega arith), (omega arith, (c .before .before .before .before .before .before .before .before .loop .inv .1 .1 .0, gathers-skip _ _ (c .before .before .before .before .before .before .before .before .loop .list) (c .before .before .before .before .before .before .before .before .loop .count) _ _ (c .before .before .before .before .before .before .before .before .loop .inv .1 .1 .1) (omega arith) m _ _ (g .0) (omega arith) (g .1) (c .before .before .before .before .before .cell-of .ensures))))
 
@@ -105,7 +105,7 @@ loop-less-3 c = omega arith
 
 loop-again-3 : tie.Need-loop-again-3 Inv-loop μ-loop
 loop-again-3 c =
-    let m = named-by-mark _ (c .before .before .before .before .mark-cells .last .1 .0) (c .before .before .before .before .before .before .before .before .before .before .before .args .k) (c .before .before .before .before .mark-cells .ensures) (c .before .before .loop .n - 1) (omega arith) (omega arith) ∙ ne-eqb _ _ (c .if1 .left) in
+    let m = named-if-seen _ (c .before .before .before .before .note-cells .last .1 .0) (c .before .before .before .before .before .before .before .before .before .before .before .args .k) (c .before .before .before .before .note-cells .ensures) (c .before .before .loop .n - 1) (omega arith) (omega arith) ∙ ne-eqb _ _ (c .if1 .left) in
     ((omega arith, omega arith), (omega arith, (c .before .before .loop .inv .1 .1 .0, gathers-unnamed _ _ _ _ _ (c .before .before .loop .inv .1 .1 .1) (omega arith) m)))
 
 same-length : tie.Need-same-length Inv-loop μ-loop
@@ -125,12 +125,12 @@ gather-block-spec =
     μ-loop
     mul-a
     add-e
-    mul-mark-cells
-    sub-mark-cells
-    part-mark-cells-start
-    part-mark-cells-end
-    slice-aggregate-mark-cells
-    mark-cells-requires
+    mul-note-cells
+    sub-note-cells
+    part-note-cells-start
+    part-note-cells-end
+    slice-aggregate-note-cells
+    note-cells-requires
     mul-first
     loop-holds
     sub-n

@@ -1,19 +1,19 @@
 use native.Mathlib.Nat.{add-zero}
-use Rattle.list_gather.proofs.Marks.{known-other, known-mark}
+use Rattle.list_gather.proofs.SeenValues.{known-other, known-noted}
 use Rattle.list_gather.specs.InnerGathered.{known}
 use lib.ListN.{length, length-set}
 use Prim.Native.Nat.{ℕ, _+_, _-_, _≤_, _<_}
 use mathlib.Core.Path.{_≡_, _∙_}
 use native.Mathlib.Omega.{arith}
 use borrow.Author.Needs.{needs}
-use Rattle.list_gather.proofs.gather.mark_run.Statement.{statement}
-use Rattle.list_gather.proofs.gather.mark_run.Tie as tie
+use Rattle.list_gather.proofs.gather.note_run.Statement.{statement}
+use Rattle.list_gather.proofs.gather.note_run.Tie as tie
 
 abbrev Inv-loop : tie.InvT-loop
-Inv-loop cells from marks₀ i₀ marks i = (i ≤ 8) × ((length marks ≡ 4097) × ((v : ℕ) → v < 4097 → known cells (from + i) marks v ≡ known cells from marks₀ v))
+Inv-loop cells from seen₀ i₀ seen i = (i ≤ 8) × ((length seen ≡ 4097) × ((v : ℕ) → v < 4097 → known cells (from + i) seen v ≡ known cells from seen₀ v))
 
 abbrev μ-loop : tie.MeasureT-loop
-μ-loop cells from marks₀ i₀ marks i = 8 - i
+μ-loop cells from seen₀ i₀ seen i = 8 - i
 
 loop-holds : tie.Need-loop-holds Inv-loop μ-loop
 loop-holds c = (omega arith, (omega arith, λ v b. rw add-zero))
@@ -33,8 +33,8 @@ wide-requires c κs = search needs
 add-i : tie.Need-add-i Inv-loop μ-loop
 add-i c = omega arith
 
-slice-write-marks : tie.Need-slice-write-marks Inv-loop μ-loop
-slice-write-marks c = omega arith
+slice-write-seen : tie.Need-slice-write-seen Inv-loop μ-loop
+slice-write-seen c = omega arith
 
 loop-less : tie.Need-loop-less Inv-loop μ-loop
 loop-less c = omega arith
@@ -44,7 +44,7 @@ loop-again c =
     let a = c .before .before .before .before .before .before .before .args in
     let i = c .before .before .before .before .loop .i in
     let r : a .from + (i + 1) ≡ a .from + i + 1 = omega arith in
-    (omega arith, (simp length-set (c .before .before .before .before .loop .inv .1 .0), λ v b. rw r (known-mark (a .cells .now) (a .from + i) (omega arith) (c .before .before .before .before .loop .marks) v (c .before .wide .result) (c .before .wide .ensures .0) (omega arith) ∙ c .before .before .before .before .loop .inv .1 .1 v b)))
+    (omega arith, (simp length-set (c .before .before .before .before .loop .inv .1 .0), λ v b. rw r (known-noted (a .cells .now) (a .from + i) (omega arith) (c .before .before .before .before .loop .seen) v (c .before .wide .result) (c .before .wide .ensures .0) (omega arith) ∙ c .before .before .before .before .loop .inv .1 .1 v b)))
 
 loop-less-2 : tie.Need-loop-less-2 Inv-loop μ-loop
 loop-less-2 c = omega arith
@@ -54,7 +54,7 @@ loop-again-2 c =
     let a = c .before .before .before .before .before .before .before .args in
     let i = c .before .before .before .before .loop .i in
     let r : a .from + (i + 1) ≡ a .from + i + 1 = omega arith in
-    (omega arith, (c .before .before .before .before .loop .inv .1 .0, λ v b. rw r (known-other (a .cells .now) (a .from + i) (omega arith) (c .before .before .before .before .loop .marks) v (λ e. absurd (omega arith)) ∙ c .before .before .before .before .loop .inv .1 .1 v b)))
+    (omega arith, (c .before .before .before .before .loop .inv .1 .0, λ v b. rw r (known-other (a .cells .now) (a .from + i) (omega arith) (c .before .before .before .before .loop .seen) v (λ e. absurd (omega arith)) ∙ c .before .before .before .before .loop .inv .1 .1 v b)))
 
 same-length : tie.Need-same-length Inv-loop μ-loop
 same-length c = omega arith
@@ -62,8 +62,8 @@ same-length c = omega arith
 returns : tie.Need-returns Inv-loop μ-loop
 returns c = let r : c .before .loop .i ≡ 8 = omega arith in λ v b. rw (← r) (c .before .loop .inv .1 .1 v b)
 
-pub mark-run-spec : {M : Type 1} → statement M
-mark-run-spec =
+pub note-run-spec : {M : Type 1} → statement M
+note-run-spec =
     tie.close
     (tie.spec
     Inv-loop
@@ -74,7 +74,7 @@ mark-run-spec =
     shared-slice-read-wide
     wide-requires
     add-i
-    slice-write-marks
+    slice-write-seen
     loop-less
     loop-again
     loop-less-2

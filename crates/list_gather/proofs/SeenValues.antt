@@ -1,4 +1,4 @@
--- The marks of the values that a block's cells have. Assumes nothing.
+-- The values that a block's cells have. Assumes nothing.
 use mathlib.Core.Path.{_≡_, refl, sym, ap, _∙_}
 use mathlib.Core.Bool.{Bool, true, false, _||_}
 use mathlib.Core.List.{List, [], _∷_}
@@ -32,32 +32,32 @@ has-none : (v : ℕ) → has-cell [] v ≡ false
 unfolding has-cell
 has-none v = refl
 
--- no marks, and no cell passed
-pub known-none : (cells marks : List ℕ) → ((v : ℕ) → v < 4097 → getD marks v 0 ≡ 0) → (v : ℕ) → v < 4097 → known cells 0 marks v ≡ has-cell cells v
+-- no seen, and no cell passed
+pub known-none : (cells seen : List ℕ) → ((v : ℕ) → v < 4097 → getD seen v 0 ≡ 0) → (v : ℕ) → v < 4097 → known cells 0 seen v ≡ has-cell cells v
 unfolding known
-known-none cells marks all v b = rw (all v b)
+known-none cells seen all v b = rw (all v b)
 
 -- every cell passed
-pub known-all : (cells marks : List ℕ) (i : ℕ) → length cells ≤ i → (v : ℕ) → eqb (getD marks v 0) 1 ≡ known cells i marks v
+pub known-all : (cells seen : List ℕ) (i : ℕ) → length cells ≤ i → (v : ℕ) → eqb (getD seen v 0) 1 ≡ known cells i seen v
 unfolding known
-known-all cells marks i e v = rw (drop-of-length-le cells e, has-none v) (sym (or-false _))
+known-all cells seen i e v = rw (drop-of-length-le cells e, has-none v) (sym (or-false _))
 
-module _ (cells : List ℕ) (i : ℕ) (b : i < length cells) (marks : List ℕ) (v : ℕ) where
+module _ (cells : List ℕ) (i : ℕ) (b : i < length cells) (seen : List ℕ) (v : ℕ) where
   next-cell : has-cell (drop i cells) v ≡ (eqb (getD cells i 0) v || has-cell (drop (i + 1) cells) v)
   next-cell = rw (add-one, drop-cons cells i 0 b) (has-next (getD cells i 0) v (drop (suc i) cells))
 
   -- a cell that has another value
-  pub known-other : (getD cells i 0 ≡ v → ⊥) → known cells (i + 1) marks v ≡ known cells i marks v
+  pub known-other : (getD cells i 0 ≡ v → ⊥) → known cells (i + 1) seen v ≡ known cells i seen v
   unfolding known
   known-other e = rw (next-cell, ne-eqb (getD cells i 0) v e)
 
-  -- a cell whose value is marked
-  pub known-mark : (u : ℕ) → u ≡ getD cells i 0 → u < length marks → known cells (i + 1) (set marks u 1) v ≡ known cells i marks v
+  -- a cell whose value is noted
+  pub known-noted : (u : ℕ) → u ≡ getD cells i 0 → u < length seen → known cells (i + 1) (set seen u 1) v ≡ known cells i seen v
   unfolding known
-  known-mark u same l =
+  known-noted u same l =
       by-eqb _ u v
-      (λ e. rw (next-cell, eq-eqb (getD cells i 0) v (sym same ∙ e), ← e, getD-set-same marks u 1 0 l) (sym (or-true (eqb (getD marks u 0) 1))))
-      (λ e. rw (next-cell, ne-eqb (getD cells i 0) v (λ p. e (same ∙ p)), getD-set-other marks u v 1 0 (λ p. e (sym p))))
+      (λ e. rw (next-cell, eq-eqb (getD cells i 0) v (sym same ∙ e), ← e, getD-set-same seen u 1 0 l) (sym (or-true (eqb (getD seen u 0) 1))))
+      (λ e. rw (next-cell, ne-eqb (getD cells i 0) v (λ p. e (same ∙ p)), getD-set-other seen u v 1 0 (λ p. e (sym p))))
 
 -- eight cells whose sum is 0 are empty
 pub eight-empty :
@@ -82,15 +82,15 @@ eight-empty cells from a b p q s (suc (suc (suc (suc k)))) l = rest k (omega ari
     rest (suc (suc (suc (suc j)))) b = absurd (omega arith)
 
 -- a run of empty cells
-pub known-empty : (cells : List ℕ) (i m : ℕ) → i + m ≤ length cells → ((k : ℕ) → k < m → getD cells (i + k) 0 ≡ 0) → (marks : List ℕ) (v : ℕ) → 0 < v → known cells (i + m) marks v ≡ known cells i marks v
-known-empty cells i zero b all marks v s = rw add-zero
-known-empty cells i (suc m) b all marks v s =
+pub known-empty : (cells : List ℕ) (i m : ℕ) → i + m ≤ length cells → ((k : ℕ) → k < m → getD cells (i + k) 0 ≡ 0) → (seen : List ℕ) (v : ℕ) → 0 < v → known cells (i + m) seen v ≡ known cells i seen v
+known-empty cells i zero b all seen v s = rw add-zero
+known-empty cells i (suc m) b all seen v s =
     let e : i + suc m ≡ i + m + 1 = omega arith in
     rw e
-    (known-other cells (i + m) (omega arith) marks v (λ p. let z = all m (omega arith) in absurd (omega arith))
-    ∙ known-empty cells i m (omega arith) (λ k l. all k (omega arith)) marks v s)
+    (known-other cells (i + m) (omega arith) seen v (λ p. let z = all m (omega arith) in absurd (omega arith))
+    ∙ known-empty cells i m (omega arith) (λ k l. all k (omega arith)) seen v s)
 
--- the mark of entry n of block k
+-- whether a cell of block k names entry n
 named-in-block : (hash : List ℕ) (k n : ℕ) → 4096 * k ≤ n → n < 4096 * k + 4096 → named hash n ≡ has-cell (block-cells-of k hash) (n - 4096 * k + 1)
 unfolding named
 named-in-block hash k n a b =
@@ -98,11 +98,11 @@ named-in-block hash k n a b =
     let q : n % 4096 ≡ n - 4096 * k = omega arith in
     rw (p, q)
 
-pub named-by-mark :
-    (hash marks : List ℕ) (k : ℕ)
-    → ((v : ℕ) → 0 < v → v < 4097 → eqb (getD marks v 0) 1 ≡ has-cell (take (8192 * k + 8192 - 8192 * k) (drop (8192 * k) hash)) v)
-    → (n : ℕ) → 4096 * k ≤ n → n < 4096 * k + 4096 → named hash n ≡ eqb (getD marks (n - 4096 * k + 1) 0) 1
-named-by-mark hash marks k all n a b =
+pub named-if-seen :
+    (hash seen : List ℕ) (k : ℕ)
+    → ((v : ℕ) → 0 < v → v < 4097 → eqb (getD seen v 0) 1 ≡ has-cell (take (8192 * k + 8192 - 8192 * k) (drop (8192 * k) hash)) v)
+    → (n : ℕ) → 4096 * k ≤ n → n < 4096 * k + 4096 → named hash n ≡ eqb (getD seen (n - 4096 * k + 1) 0) 1
+named-if-seen hash seen k all n a b =
     named-in-block hash k n a b ∙ sym (rw (mid-cells k hash) at (all (n - 4096 * k + 1) (omega arith) (omega arith)))
 
 -- the part that is block k's
