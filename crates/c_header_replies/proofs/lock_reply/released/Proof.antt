@@ -21,7 +21,7 @@ left-requires-2 : tie.Need-left-requires-2
 left-requires-2 c κs = search needs
 
 returns : tie.Need-returns
-returns c call e = told _ call _ _ _ _ _ _ (subst (ReleaseCall _ call _) (c .before .before .enum-told .given .1) e _) (rw (← c .before .with-owner .ensures) (c .left .ensures))
+returns c call e = told _ call _ _ _ _ _ _ (subst (ReleaseCall _ call _) (c .before .before .enum-told .given .1) e _) (rw (c .left .ensures, c .before .with-owner .ensures))
 
 returns-2 : tie.Need-returns-2
 returns-2 c call e = told _ call _ _ _ _ _ _ (subst (ReleaseCall _ call _) (c .before .before .answer .given .1) e _) (c .left2 .ensures)
