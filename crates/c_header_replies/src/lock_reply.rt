@@ -1,15 +1,17 @@
 // The lock calls in numbers: the reply, and the header that the call leaves.
 use c_numbers::Mode;
-use header_locks::Acquire;
-use header_locks::Release;
+use header_locks::Lock;
+use header_locks::LockAcquire;
+use header_locks::LockRelease;
 use wal_types::Header;
 use wal_types::SharedOwnerRecord;
 use wal_types::refusal;
 ghost use mathlib.Core.Path.{_≡_};
+ghost use Rattle.wal_types.specs.Call.{Call};
 ghost use Rattle.header_locks.specs.declared.Lock.the-variants.{Writer, Checkpoint};
-ghost use Rattle.header_locks.specs.Locks.{try-acquire, release};
+ghost use Rattle.header_locks.specs.Locks.{try-acquire, release, AcquireCall, ReleaseCall};
 ghost use Rattle.c_numbers.specs.Mode.{mode-given, with-mode};
-ghost use Rattle.c_header_replies.specs.LockReply.{owners-of, acquire-owners, release-owners, with-owners, LockReplied};
+ghost use Rattle.c_header_replies.specs.LockReply.{lock-left, LockReplied};
 
 // A lock call's answer in numbers. refusal: 0, or the number of the refusal. answer: 1 if the lock was taken or
 // released, else 0. local_owner is as the call leaves it: after a refusal, as it was given.
@@ -20,64 +22,61 @@ pub struct LockReply {
     pub local_owner: u64,
 }
 
-// The reply, and the header's owners as the call leaves them: all of the header that a lock call changes.
-pub struct Owners {
-    pub reply: LockReply,
-    pub writer_owner: u64,
-    pub checkpoint_owner: u64,
-}
-
-// The header that a lock call leaves, and the reply.
+// The header that a lock call leaves, and the reply. At most the lock's cell is set: the rest of the header stays in place
+// when the C function stores it.
 pub struct LockLeft {
     pub header: Header,
     pub reply: LockReply,
 }
 
-fn owners_of(refusal: u32, answer: u32, local_owner: SharedOwnerRecord, header: Header) -> Owners
-    ensures { λ r. ⌜ r ≡ owners-of refusal answer («local_owner» .0) header ⌝ }
+fn left(header: Header, refusal: u32, answer: u32, local_owner: SharedOwnerRecord) -> LockLeft
+    ensures { λ r. ⌜ r ≡ lock-left header refusal answer («local_owner» .0) ⌝ }
 {
     let reply = LockReply {
         refusal: refusal,
         answer: answer,
         local_owner: local_owner.0,
     };
-    Owners {
-        reply: reply,
-        writer_owner: header.writer_owner,
-        checkpoint_owner: header.checkpoint_owner,
-    }
-}
-
-fn acquired(answer: Acquire, header: Header, local_owner: SharedOwnerRecord) -> Owners
-    ensures { λ r. ⌜ r ≡ acquire-owners answer header («local_owner» .0) ⌝ }
-{
-    match answer {
-        Acquire::Taken(next, owner) => owners_of(0, 1, owner, next),
-        Acquire::Busy => owners_of(0, 0, local_owner, header),
-        Acquire::Refused(number) => owners_of(number, 0, local_owner, header),
-    }
-}
-
-fn released(answer: Release, header: Header, local_owner: SharedOwnerRecord) -> Owners
-    ensures { λ r. ⌜ r ≡ release-owners answer header («local_owner» .0) ⌝ }
-{
-    match answer {
-        Release::Released(next, owner) => owners_of(0, 1, owner, next),
-        Release::Refused(number) => owners_of(number, 0, local_owner, header),
-    }
-}
-
-// Only the owners are set: the rest of the header stays in place when the C function stores it.
-fn left(header: Header, owners: Owners) -> LockLeft
-    ensures { λ r. ⌜ r ≡ with-owners owners header ⌝ }
-{
-    let mut next = header;
-    next.writer_owner = owners.writer_owner;
-    next.checkpoint_owner = owners.checkpoint_owner;
-    let reply = owners.reply;
     LockLeft {
-        header: next,
+        header: header,
         reply: reply,
+    }
+}
+
+// Whatever lock call has this answer, the reply tells it.
+fn acquired(
+    lock: Lock,
+    header: Header,
+    local_owner: SharedOwnerRecord,
+    answer: LockAcquire,
+) -> LockLeft
+    ensures { λ r. ⌜ ((call : Call) → AcquireCall lock call («local_owner» .0) answer → LockReplied lock call header («local_owner» .0) (r .header) (r .reply)) ⌝ }
+{
+    match answer {
+        LockAcquire::Taken(owner) => {
+            let next = header_locks::with_owner(lock, header, owner);
+            left(next, 0, 1, owner)
+        }
+        LockAcquire::Busy => left(header, 0, 0, local_owner),
+        LockAcquire::Refused(number) => left(header, number, 0, local_owner),
+    }
+}
+
+fn released(
+    lock: Lock,
+    header: Header,
+    local_owner: SharedOwnerRecord,
+    answer: LockRelease,
+) -> LockLeft
+    ensures { λ r. ⌜ ((call : Call) → ReleaseCall lock call («local_owner» .0) answer → LockReplied lock call header («local_owner» .0) (r .header) (r .reply)) ⌝ }
+{
+    match answer {
+        LockRelease::Released => {
+            let nobody = SharedOwnerRecord(0);
+            let next = header_locks::with_owner(lock, header, nobody);
+            left(next, 0, 1, nobody)
+        }
+        LockRelease::Refused(number) => left(header, number, 0, local_owner),
     }
 }
 
@@ -85,21 +84,16 @@ pub fn try_acquire_writer(header: Header, local_owner: u64, owner: u64, card: u8
     ensures { λ r. ⌜ LockReplied Writer (try-acquire Writer owner card) header «local_owner» (r .header) (r .reply) ⌝ }
 {
     let local = SharedOwnerRecord(local_owner);
-    let answer = header_locks::try_acquire_writer(header, local, SharedOwnerRecord(owner), card);
-    left(header, acquired(answer, header, local))
+    let answer = header_locks::try_acquire_writer(local, SharedOwnerRecord(owner), card);
+    acquired(Lock::Writer, header, local, answer)
 }
 
 pub fn try_acquire_checkpoint(header: Header, local_owner: u64, owner: u64, card: u8) -> LockLeft
     ensures { λ r. ⌜ LockReplied Checkpoint (try-acquire Checkpoint owner card) header «local_owner» (r .header) (r .reply) ⌝ }
 {
     let local = SharedOwnerRecord(local_owner);
-    let answer = header_locks::try_acquire_checkpoint(
-        header,
-        local,
-        SharedOwnerRecord(owner),
-        card,
-    );
-    left(header, acquired(answer, header, local))
+    let answer = header_locks::try_acquire_checkpoint(local, SharedOwnerRecord(owner), card);
+    acquired(Lock::Checkpoint, header, local, answer)
 }
 
 // Refused if mode is no mode's number.
@@ -108,10 +102,11 @@ pub fn release_writer(mode: u32, header: Header, local_owner: u64, owner: u64) -
 {
     let local = SharedOwnerRecord(local_owner);
     let Mode::Given(given) = c_numbers::mode_of(mode) else {
-        return left(header, owners_of(refusal::SETTINGS, 0, local, header));
+        let refused = LockRelease::Refused(refusal::SETTINGS);
+        return released(Lock::Writer, header, local, refused);
     };
-    let answer = header_locks::release_writer(given, header, local, SharedOwnerRecord(owner));
-    left(header, released(answer, header, local))
+    let answer = header_locks::release_writer(given, local, SharedOwnerRecord(owner));
+    released(Lock::Writer, header, local, answer)
 }
 
 pub fn release_checkpoint(mode: u32, header: Header, local_owner: u64, owner: u64) -> LockLeft
@@ -119,8 +114,9 @@ pub fn release_checkpoint(mode: u32, header: Header, local_owner: u64, owner: u6
 {
     let local = SharedOwnerRecord(local_owner);
     let Mode::Given(given) = c_numbers::mode_of(mode) else {
-        return left(header, owners_of(refusal::SETTINGS, 0, local, header));
+        let refused = LockRelease::Refused(refusal::SETTINGS);
+        return released(Lock::Checkpoint, header, local, refused);
     };
-    let answer = header_locks::release_checkpoint(given, header, local, SharedOwnerRecord(owner));
-    left(header, released(answer, header, local))
+    let answer = header_locks::release_checkpoint(given, local, SharedOwnerRecord(owner));
+    released(Lock::Checkpoint, header, local, answer)
 }

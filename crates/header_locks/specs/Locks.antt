@@ -7,15 +7,15 @@ use lib.Dec.{eqb, ltb}
 use Rattle.wal_types.specs.declared.Header.{Header}
 use Rattle.wal_types.specs.declared.SharedWalOwnershipMode.{SharedWalOwnershipMode}
 use Rattle.wal_types.specs.Settings.{is-fcntl}
-use Rattle.wal_types.specs.Memory.{Memory, Process, with-header, with-local-writer, with-local-checkpoint, HeaderCell, to-header, writer-owner, checkpoint-owner}
+use Rattle.wal_types.specs.Memory.{Memory, Process, with-header, header-with, with-local-writer, with-local-checkpoint, HeaderCell, to-header, writer-owner, checkpoint-owner}
 use Rattle.wal_types.specs.Refusal.{Test, _if_, not-held, other-owner, no-owner, card}
 use Rattle.wal_types.specs.Call.{Call, Carried, Answer, refused, ok, flag, unless, after, done}
 use Rattle.header_locks.specs.declared.Lock.{Lock}
 use Rattle.header_locks.specs.declared.Lock.the-variants.{Writer, Checkpoint}
-use Rattle.header_locks.specs.declared.Acquire.{Acquire}
-use Rattle.header_locks.specs.declared.Acquire.the-variants.{Taken, Busy, Refused}
-use Rattle.header_locks.specs.declared.Release.{Release}
-use Rattle.header_locks.specs.declared.Release.the-variants.{Released, Refused as NotReleased}
+use Rattle.header_locks.specs.declared.LockAcquire.{LockAcquire}
+use Rattle.header_locks.specs.declared.LockAcquire.the-variants.{Taken, Busy, Refused}
+use Rattle.header_locks.specs.declared.LockRelease.{LockRelease}
+use Rattle.header_locks.specs.declared.LockRelease.the-variants.{Released, Refused as NotReleased}
 
 -- a lock's shared owner cell
 abbrev pub owner-cell : Lock → HeaderCell
@@ -61,34 +61,6 @@ releases lock m p = record { answer = ok; stores = to-header (owner-cell lock) 0
 unfoldable pub release : Lock → SharedWalOwnershipMode → ℕ → Call
 release lock mode owner = unless (λ m p. release-tests mode (local-owner lock p) owner) (releases lock)
 
--- What each case of an answer tells, and the header and local owner that it leaves.
-abbrev pub acquire-answer : Acquire → Answer
-acquire-answer (Taken h o) = flag true
-acquire-answer Busy = flag false
-acquire-answer (Refused n) = refused n
-
-abbrev pub acquire-header : Header → Acquire → Header
-acquire-header before (Taken h o) = h
-acquire-header before Busy = before
-acquire-header before (Refused n) = before
-
-abbrev pub acquire-local : ℕ → Acquire → ℕ
-acquire-local before (Taken h o) = o .0
-acquire-local before Busy = before
-acquire-local before (Refused n) = before
-
-abbrev pub release-answer : Release → Answer
-release-answer (Released h o) = ok
-release-answer (NotReleased n) = refused n
-
-abbrev pub release-header : Header → Release → Header
-release-header before (Released h o) = h
-release-header before (NotReleased n) = before
-
-abbrev pub release-local : ℕ → Release → ℕ
-release-local before (Released h o) = o .0
-release-local before (NotReleased n) = before
-
 -- On any memory with the header h in it, by any process with the local owner o, it answers a, leaves the header h′ and the
 -- local owner o′, and changes nothing else.
 abbrev pub LockCarried : Lock → Carried → Header → ℕ → Answer → Header → ℕ → Type 0
@@ -97,3 +69,21 @@ LockCarried lock carried h o a h′ o′ =
 
 abbrev pub LockCall : Lock → Call → Header → ℕ → Answer → Header → ℕ → Type 0
 LockCall lock call = LockCarried lock (after call)
+
+-- The call of a process with the local owner o answers a, whatever the header is: with the owner v in both cells, or with
+-- nothing changed.
+abbrev pub LockSet : Lock → Call → ℕ → Answer → ℕ → Type 0
+LockSet lock call o a v = (h : Header) → LockCall lock call h o a (header-with (owner-cell lock) v h) v
+
+abbrev pub LockKept : Lock → Call → ℕ → Answer → Type 0
+LockKept lock call o a = (h : Header) → LockCall lock call h o a h o
+
+-- What each case of an answer says of the call.
+abbrev pub AcquireCall : Lock → Call → ℕ → LockAcquire → Type 0
+AcquireCall lock call o (Taken owner) = LockSet lock call o (flag true) (owner .0)
+AcquireCall lock call o Busy = LockKept lock call o (flag false)
+AcquireCall lock call o (Refused n) = LockKept lock call o (refused n)
+
+abbrev pub ReleaseCall : Lock → Call → ℕ → LockRelease → Type 0
+ReleaseCall lock call o Released = LockSet lock call o ok 0
+ReleaseCall lock call o (NotReleased n) = LockKept lock call o (refused n)

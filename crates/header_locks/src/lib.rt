@@ -1,5 +1,6 @@
-// The writer and the checkpoint lock. A call is given the header, this process's own cell for the lock and, to acquire,
-// the answer of the byte lock: 0 busy, 1 granted, 2 error.
+// The writer and the checkpoint lock. A call is given this process's own cell for the lock and, to acquire, the answer of
+// the byte lock: 0 busy, 1 granted, 2 error. It answers what goes into the lock's two cells: the shared one, which is the
+// header's, and the own one.
 use wal_types::Header;
 use wal_types::SharedOwnerRecord;
 use wal_types::SharedWalOwnershipMode;
@@ -9,28 +10,28 @@ ghost use mathlib.Core.Bool.{not, _&&_};
 ghost use lib.Dec.{eqb};
 ghost use Rattle.wal_types.specs.Memory.{header-with};
 ghost use Rattle.wal_types.specs.Settings.{is-fcntl};
-ghost use Rattle.header_locks.specs.Locks.{owner-cell, try-acquire, release, acquire-answer, acquire-header, acquire-local, release-answer, release-header, release-local, LockCall};
+ghost use Rattle.header_locks.specs.Locks.{owner-cell, try-acquire, release, AcquireCall, ReleaseCall};
 
 pub enum Lock {
     Writer,
     Checkpoint,
 }
 
-// Taken: the header and the own cell with the owner in them. Busy and Refused change nothing.
-pub enum Acquire {
-    Taken(Header, SharedOwnerRecord),
+// Taken: the owner goes into both cells. Busy and Refused change nothing.
+pub enum LockAcquire {
+    Taken(SharedOwnerRecord),
     Busy,
     Refused(u32),
 }
 
-// Released: the header and the own cell without the owner. Refused changes nothing.
-pub enum Release {
-    Released(Header, SharedOwnerRecord),
+// Released: both cells become 0. Refused changes nothing.
+pub enum LockRelease {
+    Released,
     Refused(u32),
 }
 
 // The header with an owner in the lock's shared cell.
-fn with_owner(lock: Lock, header: Header, owner: SharedOwnerRecord) -> Header
+pub fn with_owner(lock: Lock, header: Header, owner: SharedOwnerRecord) -> Header
     ensures { λ r. ⌜ r ≡ header-with (owner-cell lock) (owner .0) header ⌝ }
 {
     let mut next = header;
@@ -46,28 +47,23 @@ fn with_owner(lock: Lock, header: Header, owner: SharedOwnerRecord) -> Header
     }
 }
 
-fn acquire_lock(
-    lock: Lock,
-    header: Header,
-    local_owner: SharedOwnerRecord,
-    owner: SharedOwnerRecord,
-    card: u8,
-) -> Acquire
-    ensures { λ r. ⌜ LockCall lock (try-acquire lock (owner .0) card) header («local_owner» .0) (acquire-answer r) (acquire-header header r) (acquire-local («local_owner» .0) r) ⌝ }
+// The answer is the same for both locks.
+fn acquire_lock(local_owner: SharedOwnerRecord, owner: SharedOwnerRecord, card: u8) -> LockAcquire
+    ensures { λ r. ⌜ ((lock : Lock) → AcquireCall lock (try-acquire lock (owner .0) card) («local_owner» .0) r) ⌝ }
 {
     if owner.0 == 0 {
-        return Acquire::Refused(refusal::NO_OWNER);
+        return LockAcquire::Refused(refusal::NO_OWNER);
     }
     if 2 < card {
-        return Acquire::Refused(refusal::CARD);
+        return LockAcquire::Refused(refusal::CARD);
     }
     if local_owner.0 != 0 {
-        return Acquire::Busy;
+        return LockAcquire::Busy;
     }
     if card != 1 {
-        return Acquire::Busy;
+        return LockAcquire::Busy;
     }
-    Acquire::Taken(with_owner(lock, header, owner), owner)
+    LockAcquire::Taken(owner)
 }
 
 // Whether a release is by another than the local owner. LinuxOfd does not compare owners.
@@ -85,71 +81,64 @@ fn by_other_owner(
 }
 
 fn release_lock(
-    lock: Lock,
     mode: SharedWalOwnershipMode,
-    header: Header,
     local_owner: SharedOwnerRecord,
     owner: SharedOwnerRecord,
-) -> Release
-    ensures { λ r. ⌜ LockCall lock (release lock mode (owner .0)) header («local_owner» .0) (release-answer r) (release-header header r) (release-local («local_owner» .0) r) ⌝ }
+) -> LockRelease
+    ensures { λ r. ⌜ ((lock : Lock) → ReleaseCall lock (release lock mode (owner .0)) («local_owner» .0) r) ⌝ }
 {
     if local_owner.0 == 0 {
-        return Release::Refused(refusal::NOT_HELD);
+        return LockRelease::Refused(refusal::NOT_HELD);
     }
     if by_other_owner(mode, local_owner, owner) {
-        return Release::Refused(refusal::OTHER_OWNER);
+        return LockRelease::Refused(refusal::OTHER_OWNER);
     }
     if owner.0 == 0 {
-        return Release::Refused(refusal::NO_OWNER);
+        return LockRelease::Refused(refusal::NO_OWNER);
     }
-    let nobody = SharedOwnerRecord(0);
-    Release::Released(with_owner(lock, header, nobody), nobody)
+    LockRelease::Released
 }
 
 // Attempts to take the writer lock.
 pub fn try_acquire_writer(
-    header: Header,
     local_owner: SharedOwnerRecord,
     owner: SharedOwnerRecord,
     card: u8,
-) -> Acquire
-    ensures { λ r. ⌜ LockCall Lock.Writer (try-acquire Lock.Writer (owner .0) card) header («local_owner» .0) (acquire-answer r) (acquire-header header r) (acquire-local («local_owner» .0) r) ⌝ }
+) -> LockAcquire
+    ensures { λ r. ⌜ AcquireCall Lock.Writer (try-acquire Lock.Writer (owner .0) card) («local_owner» .0) r ⌝ }
 {
-    acquire_lock(Lock::Writer, header, local_owner, owner, card)
+    acquire_lock(local_owner, owner, card)
 }
 
 // Releases the writer lock.
 pub fn release_writer(
     mode: SharedWalOwnershipMode,
-    header: Header,
     local_owner: SharedOwnerRecord,
     owner: SharedOwnerRecord,
-) -> Release
-    ensures { λ r. ⌜ LockCall Lock.Writer (release Lock.Writer mode (owner .0)) header («local_owner» .0) (release-answer r) (release-header header r) (release-local («local_owner» .0) r) ⌝ }
+) -> LockRelease
+    ensures { λ r. ⌜ ReleaseCall Lock.Writer (release Lock.Writer mode (owner .0)) («local_owner» .0) r ⌝ }
 {
-    release_lock(Lock::Writer, mode, header, local_owner, owner)
+    release_lock(mode, local_owner, owner)
 }
 
 // Attempts to take the checkpoint lock.
 pub fn try_acquire_checkpoint(
-    header: Header,
     local_owner: SharedOwnerRecord,
     owner: SharedOwnerRecord,
     card: u8,
-) -> Acquire
-    ensures { λ r. ⌜ LockCall Lock.Checkpoint (try-acquire Lock.Checkpoint (owner .0) card) header («local_owner» .0) (acquire-answer r) (acquire-header header r) (acquire-local («local_owner» .0) r) ⌝ }
+) -> LockAcquire
+    ensures { λ r. ⌜ AcquireCall Lock.Checkpoint (try-acquire Lock.Checkpoint (owner .0) card) («local_owner» .0) r ⌝ }
 {
-    acquire_lock(Lock::Checkpoint, header, local_owner, owner, card)
+    acquire_lock(local_owner, owner, card)
 }
 
 // Releases the checkpoint lock.
 pub fn release_checkpoint(
     mode: SharedWalOwnershipMode,
-    header: Header,
     local_owner: SharedOwnerRecord,
     owner: SharedOwnerRecord,
-) -> Release
-    ensures { λ r. ⌜ LockCall Lock.Checkpoint (release Lock.Checkpoint mode (owner .0)) header («local_owner» .0) (release-answer r) (release-header header r) (release-local («local_owner» .0) r) ⌝ }
+) -> LockRelease
+    ensures { λ r. ⌜ ReleaseCall Lock.Checkpoint (release Lock.Checkpoint mode (owner .0)) («local_owner» .0) r ⌝ }
 {
-    release_lock(Lock::Checkpoint, mode, header, local_owner, owner)
+    release_lock(mode, local_owner, owner)
 }

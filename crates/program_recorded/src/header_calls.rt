@@ -1,8 +1,9 @@
 // The calls on the header: publishes, bumps and the two locks.
 use crate::row;
 use crate::row::Row;
-use header_locks::Acquire;
-use header_locks::Release;
+use header_locks::Lock;
+use header_locks::LockAcquire;
+use header_locks::LockRelease;
 use header_publish::Bumped;
 use wal_types::Header;
 use wal_types::SharedOwnerRecord;
@@ -79,18 +80,24 @@ fn published(header: Header, told: u32) -> Row {
     answer(0, told, header, 0, 15)
 }
 
-fn locked(header: Header, local_owner: u64, acquire: Acquire) -> Row {
+fn locked(lock: Lock, header: Header, local_owner: u64, acquire: LockAcquire) -> Row {
     match acquire {
-        Acquire::Taken(next, held) => answer(0, 1, next, held.0, 16),
-        Acquire::Busy => answer(0, 0, header, local_owner, 16),
-        Acquire::Refused(number) => answer(number, 0, header, local_owner, 16),
+        LockAcquire::Taken(owner) => {
+            let next = header_locks::with_owner(lock, header, owner);
+            answer(0, 1, next, owner.0, 16)
+        }
+        LockAcquire::Busy => answer(0, 0, header, local_owner, 16),
+        LockAcquire::Refused(number) => answer(number, 0, header, local_owner, 16),
     }
 }
 
-fn unlocked(header: Header, local_owner: u64, release: Release) -> Row {
+fn unlocked(lock: Lock, header: Header, local_owner: u64, release: LockRelease) -> Row {
     match release {
-        Release::Released(next, held) => answer(0, 0, next, held.0, 16),
-        Release::Refused(number) => answer(number, 0, header, local_owner, 16),
+        LockRelease::Released => {
+            let next = header_locks::with_owner(lock, header, SharedOwnerRecord(0));
+            answer(0, 0, next, 0, 16)
+        }
+        LockRelease::Refused(number) => answer(number, 0, header, local_owner, 16),
     }
 }
 
@@ -125,11 +132,11 @@ fn acquire(call: u64, header: Header, given: Given) -> Row {
     let owner = SharedOwnerRecord(given.second);
     let card = row::low_byte(given.third);
     if call == 5 {
-        let acquire = header_locks::try_acquire_writer(header, local, owner, card);
-        return locked(header, given.first, acquire);
+        let acquire = header_locks::try_acquire_writer(local, owner, card);
+        return locked(Lock::Writer, header, given.first, acquire);
     }
-    let acquire = header_locks::try_acquire_checkpoint(header, local, owner, card);
-    locked(header, given.first, acquire)
+    let acquire = header_locks::try_acquire_checkpoint(local, owner, card);
+    locked(Lock::Checkpoint, header, given.first, acquire)
 }
 
 fn release(call: u64, header: Header, given: Given) -> Row {
@@ -140,11 +147,11 @@ fn release(call: u64, header: Header, given: Given) -> Row {
     let mode = row::mode_of(given.second);
     let owner = SharedOwnerRecord(given.third);
     if call == 7 {
-        let release = header_locks::release_writer(mode, header, local, owner);
-        return unlocked(header, given.first, release);
+        let release = header_locks::release_writer(mode, local, owner);
+        return unlocked(Lock::Writer, header, given.first, release);
     }
-    let release = header_locks::release_checkpoint(mode, header, local, owner);
-    unlocked(header, given.first, release)
+    let release = header_locks::release_checkpoint(mode, local, owner);
+    unlocked(Lock::Checkpoint, header, given.first, release)
 }
 
 fn make(call: u64, header: Header, given: Given) -> Row {
