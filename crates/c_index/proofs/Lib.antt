@@ -1,3 +1,3 @@
 -- Laws of the C functions of the index calls.
-mod IndexParts
+mod IndexReplies
 mod LookupReplies
