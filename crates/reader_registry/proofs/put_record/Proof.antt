@@ -1,4 +1,4 @@
--- `reader_registry::put_record` meets its contract: a walk of its MIR, printed by tools/walk. All that it knows of  is that each meets its contract. Assumes nothing.
+-- `reader_registry::put_record` meets its contract: a walk of its MIR, printed by tools/walk. Assumes nothing.
 use mathlib.Core.Path.{_≡_, refl, ap, subst}
 use Prim.Native.Nat.{ℕ, _<_, _^_, min}
 use mathlib.Core.Bool.{Bool}
@@ -76,9 +76,6 @@ use Rattle.reader_registry.proofs.put_record.Code.Mir as mir′
 abbrev stayed : Stays (entry.ended .signature .params) (entry.ended .kept)
 stayed = (stay-slice (0 ∷ []) tt (plain (λ _. SharedReadMarkT.the-row)), (stay-none (λ _. usize) yes, (stay-none (λ _. SharedReadMarkT.the-row) yes, tt)))
 
--- the contracts that the proof cites
-
-
 module _ {M : Type 1} (𝓤 : URA M) (H : Heap 𝓤) (A : Atoms 𝓤) (W : Given 𝓤 H A) (mem : Memory → SProp 𝓤) (run : Routine → Fun 𝓤) (κ0 : Lft) (q0 : Share) (b o : ℕ) (γ : GName) (ys : List SharedReadMark) (at′ : ℕ) (item : SharedReadMark)
     (room-registry : Room SharedReadMarkT.the-row (length ys)) (fits-at′ : at′ < 2 ^ 64) (is-item : Is SharedReadMarkT.the-row item (LL.val SharedReadMarkT.the-type SharedReadMarkL.the-laws item ∷ [])) where
   -- the slice of structs, its value, and what the function is passed
@@ -111,7 +108,7 @@ module _ {M : Type 1} (𝓤 : URA M) (H : Heap 𝓤) (A : Atoms 𝓤) (W : Given
       owned ! SharedReadMarkT.the-row (Is SharedReadMarkT.the-row) (LL.makes SharedReadMarkT.the-type SharedReadMarkL.the-plain 𝓤 H A) item _ is-item $ fjoin ! $ owned ! usize (Is usize) (uint-makes 𝓤 H A W w64) at′ _ (refl, fits-at′) $ fjoin ! $ move ! (1 ∷ 0 ∷ []) $ fjoin ! $
       frame ! $ owned ! unit (Is unit) (nothing-makes 𝓤 H A W) r _ is $ done !
 
-  module _ (C : Calls 𝓤 H) (Λ : Loops 𝓤 H) (fm : FmC 𝓤 H (W .laws) C)  where
+  module _ (C : Calls 𝓤 H) (Λ : Loops 𝓤 H) (fm : FmC 𝓤 H (W .laws) C) where
     branch : (l₀ l₁ l₂ l₃ l₄ l₅ l₆ l₇ : ℕ) → Sq W (‵ (fobs γ (codedHoleys SharedReadMarkT.the-row .code (heres SharedReadMarkT.the-row ys))) ∷ ‵ (fbor κ0 (Held SharedReadMarkT.the-row (length ys) b o γ)) ∷ ‵ (flft κ0 q0) ∷ ‵ (froom (tyPtr) l₇ 0) ∷ ‵ (fdies (tyPtr) l₇) ∷ ‵ (froom (tyInt w64) l₆ 0) ∷ ‵ (fdies (tyInt w64) l₆) ∷ ‵ (fat fullShare (tyBool) l₅ 0 (vbool (ltb at′ (length ys)))) ∷ ‵ (fdies (tyBool) l₅) ∷ ‵ (fat fullShare (tyInt w64) l₄ 0 (vint w64 (length ys))) ∷ ‵ (fdies (tyInt w64) l₄) ∷ ‵ (fat fullShare (SharedReadMarkL.mir) l₃ 0 (LL.val SharedReadMarkT.the-type SharedReadMarkL.the-laws item)) ∷ ‵ (fdies (SharedReadMarkL.mir) l₃) ∷ ‵ (fat fullShare (tyInt w64) l₂ 0 (vint w64 at′)) ∷ ‵ (fdies (tyInt w64) l₂) ∷ ‵ (fat fullShare (sliceTy (tyRef (named 0) mut (pointee (SharedReadMarkT.the-row .written)))) l₁ 0 (seen)) ∷ ‵ (fdies (sliceTy (tyRef (named 0) mut (pointee (SharedReadMarkT.the-row .written)))) l₁) ∷ ‵ (froom (tyUnit) l₀ 0) ∷ ‵ (fdies (tyUnit) l₀) ∷ []) (runs C Λ ((tyUnit, l₀) ∷ (sliceTy (tyRef (named 0) mut (pointee (SharedReadMarkT.the-row .written))), l₁) ∷ (tyInt w64, l₂) ∷ (SharedReadMarkL.mir, l₃) ∷ (tyInt w64, l₄) ∷ (tyBool, l₅) ∷ (tyInt w64, l₆) ∷ (tyPtr, l₇) ∷ []) mir′.t-3 (atRet ((tyUnit, l₀) ∷ (sliceTy (tyRef (named 0) mut (pointee (SharedReadMarkT.the-row .written))), l₁) ∷ (tyInt w64, l₂) ∷ (SharedReadMarkL.mir, l₃) ∷ (tyInt w64, l₄) ∷ (tyBool, l₅) ∷ (tyInt w64, l₆) ∷ (tyPtr, l₇) ∷ []) Post))
     branch l₀ l₁ l₂ l₃ l₄ l₅ l₆ l₇ =
         first ! $ branches ! (load ! (from ! (stop !)) (look ! 7 refl)) (λ holds.
@@ -149,21 +146,20 @@ module _ {M : Type 1} (𝓤 : URA M) (H : Heap 𝓤) (A : Atoms 𝓤) (W : Given
 
 module _ {M : Type 1} (𝓤 : URA M) (H : Heap 𝓤) (A : Atoms 𝓤) (W : Given 𝓤 H A) (mem : Memory → SProp 𝓤) (run : Routine → Fun 𝓤) where
   entry-walks : (C : Calls 𝓤 H) (Λ : Loops 𝓤 H) → FmC 𝓤 H (W .laws) C → Walks 𝓤 H A entry.ended stayed (WpFn 𝓤 H C Λ code.function) (entry.clauses 𝓤 H A mem run)
-  entry-walks C Λ fm  = walked 𝓤 H A entry.ended stayed (entry.clauses 𝓤 H A mem run) (WpFn 𝓤 H C Λ code.function)
+  entry-walks C Λ fm = walked 𝓤 H A entry.ended stayed (entry.clauses 𝓤 H A mem run) (WpFn 𝓤 H C Λ code.function)
       (λ κs. (slice-vals, (uint-vals w64, (LL.vals SharedReadMarkT.the-type SharedReadMarkL.the-laws, tt)))) (λ κs. (mut-slice-tells (named 0) (κs .0) SharedReadMarkT.the-row, (uint-tells w64, (LL.tells SharedReadMarkT.the-type SharedReadMarkL.the-laws, tt))))
       (λ κs qs bounds a g are. via 𝓤 _ (fst∗ 𝓤 _ (emp 𝓤))
-      (walk 𝓤 H A W mem run (κs .0) (qs .0) (a .0 .ptr .0) (a .0 .ptr .1) (a .0 .name) (a .0 .now) (a .1 .0) (a .1 .1 .0) (are .0 .0 .1) (are .1 .0 .1) (are .1 .1 .0) C Λ fm ))
+      (walk 𝓤 H A W mem run (κs .0) (qs .0) (a .0 .ptr .0) (a .0 .ptr .1) (a .0 .name) (a .0 .now) (a .1 .0) (a .1 .1 .0) (are .0 .0 .1) (are .1 .0 .1) (are .1 .1 .0) C Λ fm))
 
-entry-meets : {M : Type 1} (𝓤 : URA M) (H : Heap 𝓤) (A : Atoms 𝓤) (W : Given 𝓤 H A) (mem : Memory → SProp 𝓤) (run : Routine → Fun 𝓤) (𝓣 : Tables 𝓤 H) → 
-    Meets 𝓤 H A entry.signature (WpFn 𝓤 H (𝓣 .C) (𝓣 .Λ) code.function) (entry.spec 𝓤 H A mem run)
-entry-meets 𝓤 H A W mem run 𝓣  =
+entry-meets : {M : Type 1} (𝓤 : URA M) (H : Heap 𝓤) (A : Atoms 𝓤) (W : Given 𝓤 H A) (mem : Memory → SProp 𝓤) (run : Routine → Fun 𝓤) (𝓣 : Tables 𝓤 H)
+    → Meets 𝓤 H A entry.signature (WpFn 𝓤 H (𝓣 .C) (𝓣 .Λ) code.function) (entry.spec 𝓤 H A mem run)
+entry-meets 𝓤 H A W mem run 𝓣 =
     walk-meets 𝓤 H A entry.ended stayed W (goes-slice 𝓤 H A W 1 0 tt (plain (λ _. SharedReadMarkT.the-row)), (goes-none 𝓤 H A W 1 (λ _. usize) yes (λ κs x f. refl), (goes-none 𝓤 H A W 1 (λ _. SharedReadMarkT.the-row) yes (λ κs x f. refl), tt))) (entry.clauses 𝓤 H A mem run)
-    (WpFn 𝓤 H (𝓣 .C) (𝓣 .Λ) code.function) (WpFn-mono 𝓤 H (W .laws) 𝓣 code.function) (entry-walks 𝓤 H A W mem run (𝓣 .C) (𝓣 .Λ) (fmOf 𝓤 H (W .laws) 𝓣) )
+    (WpFn 𝓤 H (𝓣 .C) (𝓣 .Λ) code.function) (WpFn-mono 𝓤 H (W .laws) 𝓣 code.function) (entry-walks 𝓤 H A W mem run (𝓣 .C) (𝓣 .Λ) (fmOf 𝓤 H (W .laws) 𝓣))
 
 pub put-record-spec : {M : Type 1} → stated.statement M
 unfolding code.routine tablesOf
 put-record-spec 𝓤 H 𝓜 𝓖 𝓡 =
     entered 𝓤 H (tripleOf 𝓤 H (𝓖 .A) entry.signature (entry.spec 𝓤 H (𝓖 .A) (𝓜 .mem) (𝓡 .run)))
     (tables 𝓤 H 𝓜 𝓡 code.env .C) (tables 𝓤 H 𝓜 𝓡 code.env .Λ) #reader-registry·put-record code.function (code.unfolded 𝓤 H 𝓜 𝓡)
-    (entry-meets 𝓤 H (𝓖 .A) (givenOf 𝓤 H 𝓜 𝓖) (𝓜 .mem) (𝓡 .run) (tablesOf 𝓤 H 𝓜 (tables 𝓤 H 𝓜 𝓡 code.env))
-)
+    (entry-meets 𝓤 H (𝓖 .A) (givenOf 𝓤 H 𝓜 𝓖) (𝓜 .mem) (𝓡 .run) (tablesOf 𝓤 H 𝓜 (tables 𝓤 H 𝓜 𝓡 code.env)))

@@ -230,8 +230,8 @@ module _ {M : Type 1} (𝓤 : URA M) (H : Heap 𝓤) (A : Atoms 𝓤) (W : Given
       (λ κs qs bounds a g are. via 𝓤 _ (fst∗ 𝓤 _ (emp 𝓤))
       (walk 𝓤 H A W mem run (κs .0) (qs .0) (a .0 .ptr .0) (a .0 .ptr .1) (a .0 .name) (a .0 .now) (a .1 .0) (are .0 .0 .1) (are .1 .0 .1) C Λ fm known-record-at known-with-holder-less known-put-record))
 
-entry-meets : {M : Type 1} (𝓤 : URA M) (H : Heap 𝓤) (A : Atoms 𝓤) (W : Given 𝓤 H A) (mem : Memory → SProp 𝓤) (run : Routine → Fun 𝓤) (𝓣 : Tables 𝓤 H) → Triple 𝓤 (𝓣 .C #reader-registry·record-at) (Meets-record-at 𝓤 H A mem run) → Triple 𝓤 (𝓣 .C #reader-marks·with-holder-less) (Meets-with-holder-less 𝓤 H A mem run) → Triple 𝓤 (𝓣 .C #reader-registry·put-record) (Meets-put-record 𝓤 H A mem run) →
-    Meets 𝓤 H A entry.signature (WpFn 𝓤 H (𝓣 .C) (𝓣 .Λ) code.function) (entry.spec 𝓤 H A mem run)
+entry-meets : {M : Type 1} (𝓤 : URA M) (H : Heap 𝓤) (A : Atoms 𝓤) (W : Given 𝓤 H A) (mem : Memory → SProp 𝓤) (run : Routine → Fun 𝓤) (𝓣 : Tables 𝓤 H)
+    → Triple 𝓤 (𝓣 .C #reader-registry·record-at) (Meets-record-at 𝓤 H A mem run) → Triple 𝓤 (𝓣 .C #reader-marks·with-holder-less) (Meets-with-holder-less 𝓤 H A mem run) → Triple 𝓤 (𝓣 .C #reader-registry·put-record) (Meets-put-record 𝓤 H A mem run) → Meets 𝓤 H A entry.signature (WpFn 𝓤 H (𝓣 .C) (𝓣 .Λ) code.function) (entry.spec 𝓤 H A mem run)
 entry-meets 𝓤 H A W mem run 𝓣 known-record-at known-with-holder-less known-put-record =
     walk-meets 𝓤 H A entry.ended stayed W (goes-gave-slice 𝓤 H A W 1 0 tt (plain (λ _. SharedReadMarkT.the-row)), (goes-none 𝓤 H A W 1 (λ _. usize) yes (λ κs x f. refl), tt)) (entry.clauses 𝓤 H A mem run)
     (WpFn 𝓤 H (𝓣 .C) (𝓣 .Λ) code.function) (WpFn-mono 𝓤 H (W .laws) 𝓣 code.function) (entry-walks 𝓤 H A W mem run (𝓣 .C) (𝓣 .Λ) (fmOf 𝓤 H (W .laws) 𝓣) known-record-at known-with-holder-less known-put-record)
