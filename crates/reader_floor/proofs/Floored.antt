@@ -1,7 +1,7 @@
 -- The refusals of min_active_reader_frame and has_active_db_file_reader, and the calls that are accepted. Assumes nothing.
 use mathlib.Core.Path.{_≡_, sym, _∙_}
 use mathlib.Core.Bool.{Bool}
-use mathlib.Core.List.{List, [], _∷_}
+use mathlib.Core.List.{List, [], _∷_, _++_}
 use Prim.Native.Nat.{ℕ}
 use lib.ListN.{length}
 use Rattle.wal_types.specs.declared.SharedWalOwnershipMode.{SharedWalOwnershipMode}
@@ -15,10 +15,10 @@ use Rattle.reader_slots.specs.Slots.{bad-card, slots-in, locals-in, ReaderCall}
 use Rattle.reader_slots.specs.Search.{lowest-slot, some-slot, found-slot}
 use Rattle.reader_floor.specs.Floor.{probe-tests, floor-of, floor-answer, db-file-reader, reclaim-dead, min-active-reader-frame, has-active-db-file-reader}
 use Rattle.reader_probe.specs.Live.{looked-at}
-use Rattle.reader_slots.specs.Inner.{slots-refusal}
+use Rattle.reader_slots.specs.Inner.{slots-tests, slots-refusal}
 use Rattle.reader_probe.specs.Inner.{failed-by, db-file-by, probe-refusal}
 use Rattle.reader_floor.specs.Inner.{FloorOf, DbFileOf}
-use Rattle.reader_slots.proofs.Calls.{refuses, accepts, slots-tests, one-or-two, neither}
+use Rattle.reader_slots.proofs.Calls.{refuses, accepts, lowest-first, lowest-rest}
 use Rattle.reader_probe.proofs.Looked.{probes-pass, first-by-probes}
 
 module _ (n : ℕ) (mode : SharedWalOwnershipMode) (bytes b f o l : List ℕ) (k : ℕ) (e : k ≡ slots-refusal n (length b) (length f) (length o) (length l)) where
@@ -27,14 +27,15 @@ module _ (n : ℕ) (mode : SharedWalOwnershipMode) (bytes b f o l : List ℕ) (k
   later-tests looked = (card if bad-card n bytes) ∷ (probe if some-slot (failed-by mode bytes f o l) looked 0) ∷ []
 
   abbrev all-tests : ℕ → List Test
-  all-tests looked = slots-tests n (length b) (length f) (length o) (length l) (later-tests looked)
+  all-tests looked = slots-tests n (length b) (length f) (length o) (length l) ++ later-tests looked
 
   early : (looked : ℕ) → (k ≡ 0 → ⊥) → lowest (all-tests looked) ≡ k
-  early looked x = one-or-two n (length b) (length f) (length o) (length l) k e (later-tests looked) x
+  unfolding slots-refusal
+  early looked x = lowest-first (slots-tests n (length b) (length f) (length o) (length l)) (later-tests looked) k e x
 
   late : (looked q : ℕ) → k ≡ 0 → q ≡ probe-refusal n mode bytes f o l looked → lowest (all-tests looked) ≡ q
-  unfolding probe-refusal
-  late looked q fine g = neither n (length b) (length f) (length o) (length l) k e (later-tests looked) q fine (sym g)
+  unfolding slots-refusal probe-refusal
+  late looked q fine g = lowest-rest (slots-tests n (length b) (length f) (length o) (length l)) (later-tests looked) k e fine ∙ sym g
 
   -- min_active_reader_frame
   abbrev floor-call : Call

@@ -5,7 +5,6 @@ use reader_slots::slots;
 use wal_types::SharedOwnerRecord;
 use wal_types::SharedWalOwnershipMode;
 use wal_types::UNOWNED_LOCK;
-use wal_types::UNUSED_READER_FRAME;
 use wal_types::refusal;
 ghost use mathlib.Core.Path.{_≡_};
 ghost use mathlib.Core.Bool.{not, _&&_, _||_};
@@ -66,11 +65,9 @@ pub fn update_core(
     if owner.0 != reader_owners[slot] {
         return Update::Refused(refusal::OTHER_OWNER);
     }
-    if owner.0 == UNOWNED_LOCK {
-        return Update::Refused(refusal::NO_OWNER);
-    }
-    if mark == UNUSED_READER_FRAME {
-        return Update::Refused(refusal::UNUSED_MARK);
+    let by_reader = slots::reader_refusal(owner, mark);
+    if by_reader != 0 {
+        return Update::Refused(by_reader);
     }
     if in_registry {
         return Update::Refused(refusal::SHARED_SLOT);
@@ -80,7 +77,7 @@ pub fn update_core(
 }
 
 // Whether a release is by another than the slot's owner. LinuxOfd does not compare the local one.
-fn by_other_owner(
+pub fn by_other_owner(
     mode: SharedWalOwnershipMode,
     owner: SharedOwnerRecord,
     shared_owner: SharedOwnerRecord,
@@ -129,18 +126,16 @@ pub fn unregister_core(
 ) -> Release
     ensures { λ r. ⌜ ReleaseCall n slot «in_registry» «registry_len» (unregister-reader n mode slot (owner .0)) (now (bitmap .entry)) (now («reader_frames» .entry)) (now («reader_owners» .entry)) (now («local_readers» .entry)) (release-answer r) (now (bitmap .exit)) (now («reader_frames» .exit)) (now («reader_owners» .exit)) (now («local_readers» .exit)) ⌝ }
 {
-    let early = slots::slots_refusal(
+    let early = slots::registry_refusal(
         n,
         bitmap.len(),
         reader_frames.len(),
         reader_owners.len(),
         local_readers.len(),
+        registry_len,
     );
     if early != 0 {
         return Release::Refused(early);
-    }
-    if registry_len < n {
-        return Release::Refused(refusal::SHORT_MEMORY);
     }
     if n <= slot {
         return Release::Refused(refusal::SLOT_NUMBER);

@@ -8,6 +8,7 @@ use reader_shared::shared::Share;
 use reader_shared::shared::SharePlan;
 use reader_shared::shared::UnsharePlan;
 use reader_slots::slots;
+use reader_slots::slots::Slot;
 use wal_types::SharedOwnerRecord;
 use wal_types::SharedWalOwnershipMode;
 use wal_types::refusal;
@@ -59,11 +60,16 @@ pub fn share_plan(
         let answer = Share::Refused(refusal::CARD);
         return shared::share_nothing(records, answer);
     }
-    let Record::At(free) = empty else {
-        let answer = shared::without_record(n, mode, bitmap, reader_owners, local_readers, card);
+    let Slot::At(slot) = register::chosen_slot(n, mode, bitmap, reader_owners, local_readers, card)
+    else {
+        let answer = Share::NoSlot;
         return shared::share_nothing(records, answer);
     };
-    let registered = register::register_reader(
+    let Record::At(free) = empty else {
+        let answer = Share::Refused(refusal::REGISTRY_FULL);
+        return shared::share_nothing(records, answer);
+    };
+    register::take_chosen(
         n,
         mode,
         bitmap,
@@ -71,10 +77,11 @@ pub fn share_plan(
         reader_owners,
         local_readers,
         card,
+        slot,
         owner,
         mark,
     );
-    shared::share_published(records, free, registered, owner, mark)
+    shared::share_published(records, free, slot, owner, mark)
 }
 
 // A shared release, but for what it does to the registry. As in share_plan, the contract holds for every registry that
@@ -96,18 +103,16 @@ pub fn unshare_plan(
 {
     let place = seen.place;
     let item = seen.item;
-    let refused = slots::slots_refusal(
+    let early = slots::registry_refusal(
         n,
         bitmap.len(),
         reader_frames.len(),
         reader_owners.len(),
         local_readers.len(),
+        records,
     );
-    if refused != 0 {
-        return shared::release_refused(records, refused);
-    }
-    if records < n {
-        return shared::release_refused(records, refusal::SHORT_MEMORY);
+    if early != 0 {
+        return shared::release_refused(records, early);
     }
     if n <= slot {
         return shared::release_refused(records, refusal::SLOT_NUMBER);
@@ -116,40 +121,30 @@ pub fn unshare_plan(
         let absent = shared::mark_refusal(owner, mark, false);
         return shared::release_refused(records, absent);
     };
-    if item.slot as usize != slot {
-        let other = shared::mark_refusal(owner, mark, false);
-        return shared::release_refused(records, other);
-    }
-    if item.owner.0 != owner.0 {
-        let other = shared::mark_refusal(owner, mark, false);
-        return shared::release_refused(records, other);
-    }
-    let by_mark = shared::mark_refusal(owner, mark, true);
-    if shared::holders_left(item) {
-        if by_mark != 0 {
-            return shared::release_refused(records, by_mark);
-        }
-        return shared::release_made(found);
-    }
-    let by_slot = shared::last_refusal(
+    let registered = shared::is_registered(item, slot, owner);
+    let frees = shared::frees_slot(registered, item);
+    let refused = shared::unshare_refusal(
         mode,
+        registered,
+        frees,
         owner,
+        mark,
         SharedOwnerRecord(reader_owners[slot]),
         SharedOwnerRecord(local_readers[slot]),
     );
-    if by_slot != 0 {
-        return shared::release_refused(records, by_slot);
+    if refused != 0 {
+        return shared::release_refused(records, refused);
     }
-    if by_mark != 0 {
-        return shared::release_refused(records, by_mark);
+    if frees {
+        update::release_slot(
+            mode,
+            bitmap,
+            reader_frames,
+            reader_owners,
+            local_readers,
+            slot,
+        );
+        return shared::release_made(found);
     }
-    update::release_slot(
-        mode,
-        bitmap,
-        reader_frames,
-        reader_owners,
-        local_readers,
-        slot,
-    );
     shared::release_made(found)
 }

@@ -1,24 +1,19 @@
 -- "None" writes nothing: where no slot is found there is no stale one either, so none is reclaimed. Assumes nothing.
 use mathlib.Core.Path.{_≡_, refl, sym, ap, _∙_, subst}
 use mathlib.Core.List.{List}
-use Prim.Native.Nat.{ℕ, _+_, _/_, _<_, _≤_}
+use Prim.Native.Nat.{ℕ}
 use native.Mathlib.Decide.{ℕ-discrete}
 use native.Mathlib.Omega.{arith}
-use lib.ListN.{length}
 use Rattle.wal_types.specs.declared.SharedWalOwnershipMode.{SharedWalOwnershipMode}
 use Rattle.wal_types.specs.Memory.{Memory, Process}
 use Rattle.wal_types.specs.Store.{apply}
 use Rattle.wal_types.specs.Call.{none, Done, after, done}
 use Rattle.reader_slots.specs.declared.slots.Slot.{Slot}
 use Rattle.reader_slots.specs.declared.slots.Slot.the-variants.{At, Nothing}
-use Rattle.reader_slots.specs.Search.{either-slot}
 use Rattle.reader_register.specs.Register.{take-found, slot-answer, hold-found, first-slot, second-slot, chosen-slot, reclaim-unless, register-reader}
 use Rattle.reader_register.proofs.Second.{second-is-stale, nothing-reclaimed}
+use Rattle.reader_register.proofs.Registered.{from-neither}
 use Rattle.reader_register.proofs.Taken.{number-given, register-refused, register-accepted, room}
-
-neither-found : (a c : Slot) → either-slot a c ≡ Nothing → (a ≡ Nothing) × (c ≡ Nothing)
-neither-found (At i) c e = let z : _≡_ {A = ℕ} 0 1 = cc in absurd (omega arith)
-neither-found Nothing c e = (refl, e)
 
 module _ (n : ℕ) (mode : SharedWalOwnershipMode) (owner mark : ℕ) (bytes : List ℕ) (m : Memory) (p : Process) where
   abbrev reclaimed : Memory
@@ -26,7 +21,7 @@ module _ (n : ℕ) (mode : SharedWalOwnershipMode) (owner mark : ℕ) (bytes : L
 
   reclaims-none : number-given n mode owner mark bytes m p ≡ 0 → chosen-slot n mode bytes m p ≡ Nothing → reclaimed ≡ m
   reclaims-none x e =
-      let both = neither-found (first-slot n bytes m p) (second-slot n mode bytes m p) e in
+      let both = from-neither (first-slot n bytes m p) (second-slot n mode bytes m p) e in
       let enough = room n mode owner mark bytes m p x in
       let stale = sym (second-is-stale n mode bytes m p (λ j a. omega arith) (both .0)) ∙ both .1 in
       rw (both .0) (rw (nothing-reclaimed n mode bytes m p stale))

@@ -1,19 +1,18 @@
 -- What register_reader does to one slot: the slot that it answers was not held here and now has the mark, and a slot held
 -- here before keeps its cells. Assumes nothing.
 use mathlib.Core.Path.{_≡_, refl, sym, ap, _∙_, subst}
-use mathlib.Core.Bool.{Bool, true, false, not, cond, _&&_}
+use mathlib.Core.Bool.{Bool, true, false, not, _&&_}
 use mathlib.Core.List.{List}
-use mathlib.Core.Logic.{_⊎_, inl, inr}
+use mathlib.Core.Logic.{inl, inr}
 use Prim.Native.Nat.{ℕ, zero, suc, _+_, _/_, _%_, _<_}
 use native.Mathlib.Decide.{ℕ-discrete}
 use native.Mathlib.Omega.{arith}
-use lib.Dec.{eqb}
 use lib.ListN.{length, getD, length-set}
 use lib.Seq.{getD-set-same, getD-set-other}
 use borrow.Author.Tests.{eqb-false}
 use Rattle.wal_types.specs.declared.SharedWalOwnershipMode.{SharedWalOwnershipMode}
 use Rattle.wal_types.specs.declared.SharedWalOwnershipMode.the-variants.{LinuxOfd, ProcessScopedFcntl}
-use Rattle.wal_types.specs.Settings.{slots-in-limits, unused}
+use Rattle.wal_types.specs.Settings.{unused}
 use Rattle.wal_types.specs.Memory.{Memory, Process, slot-bit}
 use Rattle.wal_types.specs.Store.{apply, when}
 use Rattle.wal_types.specs.Refusal.{lowest}
@@ -22,14 +21,13 @@ use Rattle.reader_bitmap.specs.Bit.{clear-bit}
 use Rattle.reader_bitmap.proofs.Bits.{clear-same}
 use Rattle.reader_slots.specs.declared.slots.Slot.{Slot}
 use Rattle.reader_slots.specs.declared.slots.Slot.the-variants.{At, Nothing}
-use Rattle.reader_slots.specs.Slots.{short-slots, bad-card, held, is-free, granted, take-slot, empty-slot, empty-slots}
+use Rattle.reader_slots.specs.Slots.{held, is-free, granted, take-slot, empty-slot, empty-slots}
 use Rattle.reader_register.specs.Register.{available, take-found, slot-answer, hold-found, first-slot, second-slot, chosen-slot, reclaim-all, reclaimable, reclaim-unless, registers, register-tests, register-reader}
-use Rattle.reader_slots.specs.Search.{either-slot}
-use Rattle.reader_slots.specs.Inner.{slots-refusal, emptied-if}
-use Rattle.reader_slots.proofs.Calls.{apply-append, refuses, accepts, Enough, enough}
+use Rattle.reader_slots.specs.Inner.{emptied-if}
+use Rattle.reader_slots.proofs.Calls.{apply-append, refuses, accepts, none-applies, Enough, enough-by}
 use Rattle.reader_slots.proofs.Lowest.{found-below, lowest-at}
 use Rattle.reader_slots.proofs.Kept.{SlotSame, Aside, aside-same, aside-then, taken-aside}
-use Rattle.reader_register.proofs.Registered.{all-pass}
+use Rattle.reader_register.proofs.Registered.{from-either}
 use Rattle.reader_register.proofs.Kept.{reclaim-aside}
 
 -- the lists have as many cells as before
@@ -60,10 +58,6 @@ unheld false f g e = refl
 
 found-unheld : (n : ℕ) (bytes : List ℕ) (p : Process) (m : Memory) (i : ℕ) → first-slot n bytes m p ≡ At i → (held p i ≡ false) × (i < n)
 found-unheld n bytes p m i e = (unheld (held p i) (is-free m i) (granted bytes i) (lowest-at (available bytes p m) n 0 i e .0), found-below (available bytes p m) n i e)
-
-from-either : (a c : Slot) (i : ℕ) → either-slot a c ≡ At i → (a ≡ At i) ⊎ (c ≡ At i)
-from-either (At j) c i e = inl e
-from-either Nothing c i e = inr e
 
 -- What is so of the slot i that register_reader has answered: before it, in the memory m′ after it, and in the process p′.
 pub record TookSlot (n owner mark i : ℕ) (p : Process) (m′ : Memory) (p′ : Process) : Type 0 where
@@ -102,7 +96,7 @@ module _ (n : ℕ) (mode : SharedWalOwnershipMode) (owner mark : ℕ) (bytes : L
   chosen-unheld i e =
       elim (from-either (first-slot n bytes m p) (second-slot n mode bytes m p) i e) [
         | inl q ↦ found-unheld n bytes p m i q
-        | inr q ↦ found-unheld n bytes p (apply (reclaim-all n mode bytes p m) m) i q
+        | inr q ↦ found-unheld n bytes p (apply (reclaim-all n mode bytes p m) m) i (q .1)
       ]
 
   reclaimed-lengths : SameLengths m reclaimed
@@ -114,8 +108,9 @@ module _ (n : ℕ) (mode : SharedWalOwnershipMode) (owner mark : ℕ) (bytes : L
 
   -- an accepted call has its cells
   pub room : number-given ≡ 0 → Enough n (length (m .bitmap)) (length (m .reader-frames)) (length (m .reader-owners)) (length (p .local-readers))
-  unfolding slots-refusal
-  room x = enough n (length (m .bitmap)) (length (m .reader-frames)) (length (m .reader-owners)) (length (p .local-readers)) 0 (sym (all-pass (not (slots-in-limits n)) (short-slots n m p) (eqb owner 0) (eqb mark unused) (bad-card n bytes) x .0)) refl
+  room x =
+      let t = none-applies (register-tests n owner mark bytes m p) x in
+      enough-by n (length (m .bitmap)) (length (m .reader-frames)) (length (m .reader-owners)) (length (p .local-readers)) (t .0) (t .1 .0)
 
   -- a slot that is answered
   took : (x : number-given ≡ 0) (i : ℕ) → chosen ≡ At i → TookSlot n owner mark i p (apply (take-slot i owner mark reclaimed) reclaimed) (hold-found owner p (At i))
@@ -123,7 +118,7 @@ module _ (n : ℕ) (mode : SharedWalOwnershipMode) (owner mark : ℕ) (bytes : L
       let a = chosen-unheld i e in
       let b = room x in
       let q = reclaimed-lengths in
-      let t = all-pass (not (slots-in-limits n)) (short-slots n m p) (eqb owner 0) (eqb mark unused) (bad-card n bytes) x .1 in
+      let t = none-applies (register-tests n owner mark bytes m p) x .1 .1 in
       let w : i / 64 < length (reclaimed .bitmap) = omega (arith, a .1) in
       record {
         below = a .1;

@@ -6,17 +6,19 @@ use reader_slots::slots;
 use reader_slots::slots::Slot;
 use wal_types::SharedOwnerRecord;
 use wal_types::SharedWalOwnershipMode;
-use wal_types::UNOWNED_LOCK;
-use wal_types::UNUSED_READER_FRAME;
 use wal_types::refusal;
 ghost use mathlib.Core.Path.{_≡_};
+ghost use mathlib.Core.Bool.{cond};
 ghost use Prim.Native.Nat.{_+_, _/_, _<_, _≤_};
+ghost use lib.Dec.{eqb};
 ghost use lib.ListN.{length, set};
 ghost use Rattle.wal_types.specs.Store.{apply};
+ghost use Rattle.wal_types.specs.Call.{slot-taken};
+ghost use Rattle.reader_slots.specs.declared.slots.Slot.the-variants.{At};
 ghost use Rattle.reader_slots.specs.Slots.{take-slot, ReaderCall};
 ghost use Rattle.reader_slots.specs.Inner.{SlotsBecome};
 ghost use Rattle.reader_register.specs.Register.{register-reader, register-answer};
-ghost use Rattle.reader_register.specs.Inner.{register-refusal, RegistersCall};
+ghost use Rattle.reader_register.specs.Inner.{register-refusal, chosen-by, RegistersCall};
 
 // Taken is the reader's slot. Refused changes nothing, and neither does NoSlot.
 pub enum Register {
@@ -68,11 +70,9 @@ fn register_refusal(
     if early != 0 {
         return early;
     }
-    if owner.0 == UNOWNED_LOCK {
-        return refusal::NO_OWNER;
-    }
-    if mark == UNUSED_READER_FRAME {
-        return refusal::UNUSED_MARK;
+    let by_reader = slots::reader_refusal(owner, mark);
+    if by_reader != 0 {
+        return by_reader;
     }
     if slots::bad_card(n, card) {
         return refusal::CARD;
@@ -80,9 +80,35 @@ fn register_refusal(
     0
 }
 
-// register_reader where none of its refusals applies. The lowest free slot is taken; if none is free, the lowest stale
-// one, which is free once the stale slots are reclaimed.
-pub fn register_checked(
+// The slot that a registration takes, found before anything is stored: the lowest free one; if none is free, the lowest
+// stale one, which is free once the stale slots are reclaimed.
+pub fn chosen_slot(
+    n: usize,
+    mode: SharedWalOwnershipMode,
+    bitmap: &[u64],
+    reader_owners: &[u64],
+    local_readers: &[u64],
+    card: &[u8],
+) -> Slot
+    requires { ⌜ (n ≤ 256) × (((n + 63) / 64 ≤ length (now bitmap)) × ((n ≤ length (now «reader_owners»)) × ((n ≤ length (now «local_readers»)) × (n ≤ length (now card))))) ⌝ }
+    ensures { λ r. ⌜ r ≡ chosen-by n mode (now (card .entry)) (now (bitmap .entry)) (now («reader_owners» .entry)) (now («local_readers» .entry)) ⌝ }
+{
+    if let Slot::At(slot) = available::available_slot(n, bitmap, local_readers, card) {
+        return Slot::At(slot);
+    }
+    stale::stale_slot(n, mode, bitmap, reader_owners, local_readers, card)
+}
+
+// Where the reclaim of a registration starts: at the slot chosen, which is then the lowest stale one. If that slot is
+// free, nothing is reclaimed.
+fn reclaim_start(n: usize, slot: usize, bit: u64) -> usize
+    ensures { λ r. ⌜ r ≡ cond (eqb bit 1) n slot ⌝ }
+{
+    if bit == 1 { n } else { slot }
+}
+
+// Registers a reader in the slot chosen, after the reclaim that it may need.
+pub fn take_chosen(
     n: usize,
     mode: SharedWalOwnershipMode,
     bitmap: &mut [u64],
@@ -90,31 +116,18 @@ pub fn register_checked(
     reader_owners: &mut [u64],
     local_readers: &mut [u64],
     card: &[u8],
+    slot: usize,
     owner: SharedOwnerRecord,
     mark: u64,
-) -> Register
-    requires { ⌜ (n ≤ 256) × (((n + 63) / 64 ≤ length (now bitmap)) × ((n ≤ length (now «reader_frames»)) × ((n ≤ length (now «reader_owners»)) × ((n ≤ length (now «local_readers»)) × (length (now card) ≡ n))))) ⌝ }
-    ensures { λ r. ⌜ RegistersCall n mode (owner .0) mark (now (card .entry)) (now (bitmap .entry)) (now («reader_frames» .entry)) (now («reader_owners» .entry)) (now («local_readers» .entry)) (register-answer (owner .0) mark r) (now (bitmap .exit)) (now («reader_frames» .exit)) (now («reader_owners» .exit)) (now («local_readers» .exit)) ⌝ }
+)
+    requires { ⌜ ((n ≤ 256) × (((n + 63) / 64 ≤ length (now bitmap)) × ((n ≤ length (now «reader_frames»)) × ((n ≤ length (now «reader_owners»)) × ((n ≤ length (now «local_readers»)) × (length (now card) ≡ n)))))) × (chosen-by n mode (now card) (now bitmap) (now «reader_owners») (now «local_readers») ≡ At slot) ⌝ }
+    ensures { λ _. ⌜ RegistersCall n mode (owner .0) mark (now (card .entry)) (now (bitmap .entry)) (now («reader_frames» .entry)) (now («reader_owners» .entry)) (now («local_readers» .entry)) (slot-taken slot (owner .0) mark) (now (bitmap .exit)) (now («reader_frames» .exit)) (now («reader_owners» .exit)) (now («local_readers» .exit)) ⌝ }
 {
-    if let Slot::At(slot) = available::available_slot(n, bitmap, local_readers, card) {
-        take_slot(
-            bitmap,
-            reader_frames,
-            reader_owners,
-            local_readers,
-            slot,
-            owner,
-            mark,
-        );
-        return Register::Taken(slot);
-    }
-    let Slot::At(slot) = stale::stale_slot(n, mode, bitmap, reader_owners, local_readers, card)
-    else {
-        return Register::NoSlot;
-    };
+    let bit = reader_bitmap::bit(bitmap[slot / 64], (slot % 64) as u32);
+    let first = reclaim_start(n, slot, bit);
     stale::reclaim_stale_reader_slots(
         n,
-        slot,
+        first,
         mode,
         bitmap,
         reader_frames,
@@ -131,7 +144,6 @@ pub fn register_checked(
         owner,
         mark,
     );
-    Register::Taken(slot)
 }
 
 // Takes a reader slot for a read transaction at a mark. The mark in the slot keeps checkpoints from copying past it.
@@ -161,7 +173,10 @@ pub fn register_reader(
     if refused != 0 {
         return Register::Refused(refused);
     }
-    register_checked(
+    let Slot::At(slot) = chosen_slot(n, mode, bitmap, reader_owners, local_readers, card) else {
+        return Register::NoSlot;
+    };
+    take_chosen(
         n,
         mode,
         bitmap,
@@ -169,7 +184,9 @@ pub fn register_reader(
         reader_owners,
         local_readers,
         card,
+        slot,
         owner,
         mark,
-    )
+    );
+    Register::Taken(slot)
 }

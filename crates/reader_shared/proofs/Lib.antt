@@ -1,6 +1,3 @@
--- Laws of plans, of refusals and of stale slots.
+-- Laws of plans and of refusals.
 pub mod Refused
-pub mod Unmarked
-pub mod NoRecord
-pub mod Stale
 pub mod Plans

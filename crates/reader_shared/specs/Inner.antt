@@ -2,27 +2,22 @@
 -- them. Assumes nothing.
 use mathlib.Core.Path.{_≡_}
 use mathlib.Core.Bool.{Bool, not, _&&_, _||_, cond}
-use mathlib.Core.List.{List, [], _∷_}
-use Prim.Native.Nat.{ℕ, _<_, min}
-use lib.Dec.{eqb, leb, ltb}
-use lib.ListN.{length, getD}
+use mathlib.Core.List.{List, [], _∷_, _++_}
+use Prim.Native.Nat.{ℕ, min}
+use lib.Dec.{eqb, leb}
+use lib.ListN.{length}
 use Rattle.wal_types.specs.declared.SharedOwnerRecord.{SharedOwnerRecord}
 use Rattle.wal_types.specs.declared.SharedReadMark.{SharedReadMark}
 use Rattle.wal_types.specs.declared.SharedWalOwnershipMode.{SharedWalOwnershipMode}
-use Rattle.wal_types.specs.Settings.{slots-in-limits, unused, most-holders, is-fcntl}
-use Rattle.wal_types.specs.Memory.{slot-bit}
-use Rattle.wal_types.specs.Refusal.{_if_, lowest, settings, short-memory, not-held, other-owner, no-owner, unused-mark, no-such-mark}
+use Rattle.wal_types.specs.Settings.{most-holders, is-fcntl}
+use Rattle.wal_types.specs.Refusal.{Test, _if_, lowest, not-held, other-owner, no-such-mark}
 use Rattle.wal_types.specs.Call.{Call, Carried, Answer, after}
-use Rattle.reader_slots.specs.Slots.{shorter}
-use Rattle.reader_slots.specs.Search.{found-slot, lowest-slot, some-slot}
-use Rattle.reader_slots.specs.Inner.{available-by}
+use Rattle.reader_slots.specs.Inner.{registry-tests, reader-tests}
 use Rattle.reader_marks.specs.declared.Seen.{Seen}
 use Rattle.reader_marks.specs.InnerScan.{seen-of}
-use Rattle.reader_register.specs.declared.register.Register.{Register}
-use Rattle.reader_register.specs.declared.register.Register.the-variants.{Taken as RegisterTaken, NoSlot as RegisterNone, Refused as RegisterRefused}
 use Rattle.reader_moves.specs.declared.update.Release.the-variants.{Released, Refused as NotReleased}
 use Rattle.reader_shared.specs.declared.shared.Share.{Share}
-use Rattle.reader_shared.specs.declared.shared.Share.the-variants.{Taken, NoSlot as NotTaken, Refused as NotShared}
+use Rattle.reader_shared.specs.declared.shared.Share.the-variants.{Taken, Refused as NotShared}
 use Rattle.reader_shared.specs.declared.shared.SharePlan.{SharePlan}
 use Rattle.reader_shared.specs.declared.shared.UnsharePlan.{UnsharePlan}
 use Rattle.reader_shared.specs.Shared.{SharedCarried}
@@ -40,16 +35,10 @@ shares-joined records found item mark bad =
     (shares-nothing records (NotShared 14))
     (record { retained = found; published = records; slot = 0; answer = Taken (item .slot) (item .owner) mark }))
 
--- the slot that register_reader has answered is a 32-bit number
-abbrev pub SlotFits : Register → Type 0
-SlotFits registered = (slot : ℕ) → registered ≡ RegisterTaken slot → slot < 4294967296
-
--- the plan for a new mark, by what register_reader has answered
-unfoldable pub shares-published : ℕ → ℕ → Register → SharedOwnerRecord → ℕ → SharePlan
-shares-published records free (RegisterTaken slot) owner mark =
+-- the plan for a new mark, in the slot taken
+abbrev pub shares-published : ℕ → ℕ → ℕ → SharedOwnerRecord → ℕ → SharePlan
+shares-published records free slot owner mark =
     record { retained = records; published = free; slot = slot; answer = Taken slot owner mark }
-shares-published records free RegisterNone owner mark = shares-nothing records NotTaken
-shares-published records free (RegisterRefused k) owner mark = shares-nothing records NotTaken
 
 -- the plan of a release that is refused, and of one that is made
 abbrev pub releases-nothing : ℕ → ℕ → UnsharePlan
@@ -59,39 +48,33 @@ abbrev pub releases-one : ℕ → UnsharePlan
 releases-one found = record { released = found; answer = Released }
 
 -- the number of refusal 1, 2, 9 or 10, 0 for none of them
+abbrev pub four-tests : ℕ → ℕ → ℕ → ℕ → ℕ → ℕ → ℕ → ℕ → List Test
+four-tests n words frames owners locals records owner mark =
+    registry-tests n words frames owners locals records ++ reader-tests owner mark
+
 unfoldable pub share-refusal : ℕ → ℕ → ℕ → ℕ → ℕ → ℕ → ℕ → ℕ → ℕ
-share-refusal n words frames owners locals records owner mark =
-    lowest
-    ((settings if not (slots-in-limits n))
-    ∷ (short-memory if (shorter n words frames owners locals || ltb records n))
-    ∷ (no-owner if eqb owner 0)
-    ∷ (unused-mark if eqb mark unused)
-    ∷ [])
+share-refusal n words frames owners locals records owner mark = lowest (four-tests n words frames owners locals records owner mark)
 
--- a slot that is reclaimed, by its cells and by lists
-abbrev pub stale-cell : SharedWalOwnershipMode → ℕ → ℕ → ℕ → ℕ → Bool
-stale-cell mode bit owner local byte = not (eqb bit 1) && not (not (eqb local 0)) && eqb byte 1 && not (is-fcntl mode && eqb owner 0)
+-- the number of refusal 7 or 8 of a release that frees the slot, by the slot's shared and local owners; 0 for neither
+abbrev pub last-tests : SharedWalOwnershipMode → Bool → ℕ → ℕ → ℕ → List Test
+last-tests mode frees owner shared local =
+    (not-held if (frees && not (not (eqb local 0))))
+    ∷ (other-owner if (frees && (not (eqb owner shared) || (is-fcntl mode && not (eqb owner local)))))
+    ∷ []
 
-abbrev pub stale-by : SharedWalOwnershipMode → List ℕ → List ℕ → List ℕ → List ℕ → ℕ → Bool
-stale-by mode bytes b o l i = stale-cell mode (slot-bit b i) (getD o i 0) (getD l i 0) (getD bytes i 0)
+unfoldable pub last-refusal : SharedWalOwnershipMode → Bool → ℕ → ℕ → ℕ → ℕ
+last-refusal mode frees owner shared local = lowest (last-tests mode frees owner shared local)
 
--- the answer to a new mark where no record is empty: refused if a slot is available, or would be after a reclaim
-unfoldable pub no-record-answer : ℕ → SharedWalOwnershipMode → List ℕ → List ℕ → List ℕ → List ℕ → Share
-no-record-answer n mode bytes b o l =
-    cond (found-slot (lowest-slot (available-by b l bytes) n 0) || some-slot (stale-by mode bytes b o l) n 0) (NotShared 13) NotTaken
+-- the number of refusal 9, 10 or 12, 0 for none of them; and of these and 7 and 8
+abbrev pub mark-tests : ℕ → ℕ → Bool → List Test
+mark-tests owner mark known = reader-tests owner mark ++ ((no-such-mark if not known) ∷ [])
 
--- the number of refusal 9, 10 or 12, 0 for none of them
 unfoldable pub mark-refusal : ℕ → ℕ → Bool → ℕ
-mark-refusal owner mark known =
-    lowest ((no-owner if eqb owner 0) ∷ (unused-mark if eqb mark unused) ∷ (no-such-mark if not known) ∷ [])
+mark-refusal owner mark known = lowest (mark-tests owner mark known)
 
--- the number of refusal 7 or 8 of a last holder, by the slot's shared and local owners; 0 for neither
-unfoldable pub last-refusal : SharedWalOwnershipMode → ℕ → ℕ → ℕ → ℕ
-last-refusal mode owner shared local =
-    lowest
-    ((not-held if not (not (eqb local 0)))
-    ∷ (other-owner if (not (eqb owner shared) || (is-fcntl mode && not (eqb owner local))))
-    ∷ [])
+unfoldable pub unshare-refusal : SharedWalOwnershipMode → Bool → Bool → ℕ → ℕ → ℕ → ℕ → ℕ
+unshare-refusal mode known frees owner mark shared local =
+    lowest (last-tests mode frees owner shared local ++ mark-tests owner mark known)
 
 -- Where the registry has so many records and a scan of the first n has seen this, it answers a, leaves the lists b′, f′, o′ and
 -- l′, makes this change to the registry, and changes nothing else.

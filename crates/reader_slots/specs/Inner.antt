@@ -1,24 +1,42 @@
 -- Words for the contracts of the inner functions: the calls' tests, over single cells and lists. No contract of a call cites
 -- them. Assumes nothing.
 use mathlib.Core.Path.{_≡_}
-use mathlib.Core.Bool.{Bool, not, _&&_, cond}
+use mathlib.Core.Bool.{Bool, not, _&&_, _||_, cond}
 use mathlib.Core.List.{List, [], _∷_}
 use Prim.Native.Nat.{ℕ, _+_, _-_, max}
 use lib.Dec.{eqb, ltb}
 use lib.ListN.{getD}
 use Rattle.wal_types.specs.declared.SharedWalOwnershipMode.{SharedWalOwnershipMode}
-use Rattle.wal_types.specs.Settings.{slots-in-limits}
+use Rattle.wal_types.specs.Settings.{slots-in-limits, unused}
 use Rattle.wal_types.specs.Memory.{Memory, Process, bit-at, slot-bit}
 use Rattle.wal_types.specs.Store.{apply, when}
-use Rattle.wal_types.specs.Refusal.{_if_, lowest, settings, short-memory}
+use Rattle.wal_types.specs.Refusal.{Test, _if_, lowest, settings, short-memory, no-owner, unused-mark}
 use Rattle.reader_slots.specs.declared.slots.Slot.{Slot}
 use Rattle.reader_slots.specs.declared.slots.Slot.the-variants.{At, Nothing}
 use Rattle.reader_slots.specs.Slots.{shorter, granted, empty-slot, slots-in, locals-in}
 
 -- the number of refusal 1 or 2, 0 for neither
+abbrev pub slots-tests : ℕ → ℕ → ℕ → ℕ → ℕ → List Test
+slots-tests n words frames owners locals =
+    (settings if not (slots-in-limits n)) ∷ (short-memory if shorter n words frames owners locals) ∷ []
+
 unfoldable pub slots-refusal : ℕ → ℕ → ℕ → ℕ → ℕ → ℕ
-slots-refusal n words frames owners locals =
-    lowest ((settings if not (slots-in-limits n)) ∷ (short-memory if shorter n words frames owners locals) ∷ [])
+slots-refusal n words frames owners locals = lowest (slots-tests n words frames owners locals)
+
+-- the same where the registry is lent too
+abbrev pub registry-tests : ℕ → ℕ → ℕ → ℕ → ℕ → ℕ → List Test
+registry-tests n words frames owners locals records =
+    (settings if not (slots-in-limits n)) ∷ (short-memory if (shorter n words frames owners locals || ltb records n)) ∷ []
+
+unfoldable pub registry-refusal : ℕ → ℕ → ℕ → ℕ → ℕ → ℕ → ℕ
+registry-refusal n words frames owners locals records = lowest (registry-tests n words frames owners locals records)
+
+-- the number of refusal 9 or 10, 0 for neither
+abbrev pub reader-tests : ℕ → ℕ → List Test
+reader-tests owner mark = (no-owner if eqb owner 0) ∷ (unused-mark if eqb mark unused) ∷ []
+
+unfoldable pub reader-refusal : ℕ → ℕ → ℕ
+reader-refusal owner mark = lowest (reader-tests owner mark)
 
 -- the greatest byte of the card, 0 if it has none
 unfoldable pub greatest : List ℕ → ℕ

@@ -1,4 +1,4 @@
-// What all calls on reader slots share: the refusals 1, 2 and 14, and the emptying of one slot.
+// What all calls on reader slots share: the refusals 1, 2, 9, 10 and 14, and the emptying of one slot.
 use wal_types::SharedOwnerRecord;
 use wal_types::SharedWalOwnershipMode;
 use wal_types::UNOWNED_LOCK;
@@ -14,7 +14,7 @@ ghost use Rattle.wal_types.specs.Memory.{Memory};
 ghost use Rattle.wal_types.specs.Store.{apply};
 ghost use Rattle.reader_bitmap.specs.Bit.{set-bit};
 ghost use Rattle.reader_slots.specs.Slots.{bad-card, empty-slot, slots-in};
-ghost use Rattle.reader_slots.specs.Inner.{slots-refusal, greatest};
+ghost use Rattle.reader_slots.specs.Inner.{slots-refusal, registry-refusal, reader-refusal, greatest};
 
 // A slot found, or none.
 pub enum Slot {
@@ -68,6 +68,46 @@ pub fn slots_refusal(
     }
     if local_readers_len < n {
         return refusal::SHORT_MEMORY;
+    }
+    0
+}
+
+// Refusal 1 or 2 where the registry of shared marks is lent too; 0 for neither.
+pub fn registry_refusal(
+    n: usize,
+    bitmap_len: usize,
+    reader_frames_len: usize,
+    reader_owners_len: usize,
+    local_readers_len: usize,
+    registry_len: usize,
+) -> u32
+    ensures { λ r. ⌜ r ≡ registry-refusal n «bitmap_len» «reader_frames_len» «reader_owners_len» «local_readers_len» «registry_len» ⌝ }
+{
+    let early = slots_refusal(
+        n,
+        bitmap_len,
+        reader_frames_len,
+        reader_owners_len,
+        local_readers_len,
+    );
+    if early != 0 {
+        return early;
+    }
+    if registry_len < n {
+        return refusal::SHORT_MEMORY;
+    }
+    0
+}
+
+// Refusal 9 or 10, by the owner and the mark of a reader; 0 for neither.
+pub fn reader_refusal(owner: SharedOwnerRecord, mark: u64) -> u32
+    ensures { λ r. ⌜ r ≡ reader-refusal (owner .0) mark ⌝ }
+{
+    if owner.0 == UNOWNED_LOCK {
+        return refusal::NO_OWNER;
+    }
+    if mark == UNUSED_READER_FRAME {
+        return refusal::UNUSED_MARK;
     }
     0
 }

@@ -21,13 +21,14 @@ use Rattle.reader_probe.specs.declared.live.Floor.{Floor}
 use Rattle.reader_probe.specs.declared.live.Floor.the-variants.{Mark, NoMark}
 use Rattle.reader_slots.specs.Slots.{held, granted, empty-slot, empty-slots}
 use Rattle.reader_probe.specs.Live.{skipped, dead}
+use Rattle.reader_slots.proofs.Calls.{none-applies, enough-by}
 use Rattle.reader_floor.specs.Floor.{floor-of, floor-answer, probe-tests, reclaim-dead, min-active-reader-frame}
 use Rattle.reader_limit.specs.Limit.{limit-of, copy-back-limit}
 use Rattle.reader_slots.proofs.Cells.{getD-any, and-false}
 use Rattle.reader_slots.proofs.Kept.{SlotSame, slot-same, emptied-other}
 use Rattle.reader_floor.proofs.Least.{AtMost, floor-at-most}
 use Rattle.sequence.proofs.SlotsAside.{by-tests}
-use Rattle.sequence.proofs.SlotsCells.{not-both, none-applies, room}
+use Rattle.sequence.proofs.SlotsCells.{not-both}
 
 -- a frame cell made UNUSED, and one that was so already
 unused-cell : (f : List ℕ) (i : ℕ) → getD (set f i unused) i unused ≡ unused
@@ -123,7 +124,8 @@ module _ (n : ℕ) (mode : SharedWalOwnershipMode) (bytes : List ℕ) (m : Memor
 
   bounded : lowest (probe-tests n mode bytes n m p) ≡ 0 → Stays (apply (reclaim-dead mode bytes p n m) m) → AtMost x (floor-of n mode bytes m p)
   bounded e h =
-      let r = room n m p (none-applies (probe-tests n mode bytes n m p) e .1 .0) in
+      let t = none-applies (probe-tests n mode bytes n m p) e in
+      let r = enough-by n (length (m .bitmap)) (length (m .reader-frames)) (length (m .reader-owners)) (length (p .local-readers)) (t .0) (t .1 .0) in
       floor-at-most mode bytes p m n i x below (live-or-dead (skipped mode m i) (held p i) (granted bytes i) not-skipped (is-alive h)) (getD-any (m .reader-frames) i 0 unused (omega arith) ∙ marked) (λ z. (omega arith))
 
   pub floor-bound : accepted (after (min-active-reader-frame n mode bytes) m p .answer) → Stays (after (min-active-reader-frame n mode bytes) m p .memory) → (f : ℕ) × (after (min-active-reader-frame n mode bytes) m p .answer ≡ frame-found f) × (f ≤ x)

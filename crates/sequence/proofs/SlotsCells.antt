@@ -1,21 +1,21 @@
 -- Laws of tests that pass, of registries and of cells, for the calls on reader slots. Assumes nothing.
 use mathlib.Core.Path.{_≡_, refl, sym, ap, _∙_}
 use mathlib.Core.Bool.{Bool, true, false, not, _&&_, _||_, cond}
-use mathlib.Core.List.{List, [], _∷_}
-use Prim.Native.Nat.{ℕ, zero, suc, _+_, _<_, _≤_}
+use mathlib.Core.List.{List}
+use Prim.Native.Nat.{ℕ, zero, suc, _+_, _<_}
 use native.Mathlib.Decide.{ℕ-discrete}
 use native.Mathlib.Omega.{arith}
-use lib.Dec.{eqb, ltb}
-use lib.ListN.{length, getD}
-use borrow.Author.Tests.{ltb-false, eqb-true, eqb-false, eq-eqb, ne-eqb, not-true}
+use lib.Dec.{eqb}
+use lib.ListN.{getD}
+use borrow.Author.Tests.{eqb-true, eqb-false, eq-eqb, ne-eqb, not-true}
 use Rattle.wal_types.specs.declared.SharedReadMark.{SharedReadMark}
-use Rattle.wal_types.specs.Settings.{words-for}
-use Rattle.wal_types.specs.Memory.{Memory, Process, no-mark}
-use Rattle.wal_types.specs.Refusal.{Refusal, Test, number, lowest, settings, short-memory, frame-order, hash-full, short-list, slot-number, not-held, other-owner, no-owner, unused-mark, shared-slot, no-such-mark, registry-full, card, probe}
+use Rattle.wal_types.specs.Memory.{Process, no-mark}
+use Rattle.wal_types.specs.Refusal.{lowest}
 use Rattle.reader_slots.specs.declared.slots.Slot.{Slot}
 use Rattle.reader_slots.specs.declared.slots.Slot.the-variants.{At as SlotAt, Nothing as NoSlot}
-use Rattle.reader_slots.specs.Slots.{short-slots, in-registry}
+use Rattle.reader_slots.specs.Slots.{in-registry}
 use Rattle.reader_slots.specs.Search.{lowest-slot}
+use Rattle.reader_slots.proofs.Calls.{neither-true}
 use Rattle.reader_slots.proofs.Lowest.{lowest-at, lowest-below, lowest-nothing}
 use Rattle.reader_marks.specs.declared.Record.{Record}
 use Rattle.reader_marks.specs.declared.Record.the-variants.{At, Nothing}
@@ -25,61 +25,9 @@ pub not-both : (t : Bool) → t ≡ true → t ≡ false → ⊥
 not-both true a b = let z : _≡_ {A = ℕ} 0 1 = cc in omega arith
 not-both false a b = let z : _≡_ {A = ℕ} 0 1 = cc in omega arith
 
-pub neither-true : (a b : Bool) → (a || b) ≡ false → (a ≡ false) × (b ≡ false)
-neither-true true b e = absurd (not-both true refl e)
-neither-true false b e = (refl, e)
-
 pub both-true : (a b : Bool) → (a && b) ≡ true → (a ≡ true) × (b ≡ true)
 both-true true b e = (refl, e)
 both-true false b e = absurd (not-both false e refl)
-
--- no test applies
-abbrev pub NoneApplies : List Test → Type 0
-NoneApplies [] = Unit {0}
-NoneApplies (t ∷ rest) = (t .applies ≡ false) × NoneApplies rest
-
-number-above : (r : Refusal) → number r ≡ 0 → ⊥
-number-above settings e = omega arith
-number-above short-memory e = omega arith
-number-above frame-order e = omega arith
-number-above hash-full e = omega arith
-number-above short-list e = omega arith
-number-above slot-number e = omega arith
-number-above not-held e = omega arith
-number-above other-owner e = omega arith
-number-above no-owner e = omega arith
-number-above unused-mark e = omega arith
-number-above shared-slot e = omega arith
-number-above no-such-mark e = omega arith
-number-above registry-full e = omega arith
-number-above card e = omega arith
-number-above probe e = omega arith
-
-first-passes : (t : Bool) (r : Refusal) (rest : ℕ) → cond t (number r) rest ≡ 0 → (t ≡ false) × (rest ≡ 0)
-first-passes true r rest e = absurd (number-above r e)
-first-passes false r rest e = (refl, e)
-
-pub none-applies : (tests : List Test) → lowest tests ≡ 0 → NoneApplies tests
-none-applies [] e = tt
-none-applies (t ∷ rest) e =
-    let a = first-passes (t .applies) (t .refusal) (lowest rest) e in
-    (a .0, none-applies rest (a .1))
-
--- where refusal 2 does not apply, each list has a cell for each slot
-pub record Room (n : ℕ) (m : Memory) (p : Process) : Type 0 where
-  pub frames-room : n ≤ length (m .reader-frames)
-  pub owners-room : n ≤ length (m .reader-owners)
-  pub locals-room : n ≤ length (p .local-readers)
-
-pub room : (n : ℕ) (m : Memory) (p : Process) → short-slots n m p ≡ false → Room n m p
-room n m p e =
-    let w = ltb (length (m .bitmap)) (words-for n) in
-    let f = ltb (length (m .reader-frames)) n in
-    let o = ltb (length (m .reader-owners)) n in
-    let a = neither-true (w || f || o) (ltb (length (p .local-readers)) n) e in
-    let b = neither-true (w || f) o (a .0) in
-    let c = neither-true w f (b .0) in
-    record { frames-room = ltb-false _ _ (c .1); owners-room = ltb-false _ _ (b .1); locals-room = ltb-false _ _ (a .1) }
 
 -- the registry's record j
 abbrev pub rec-at : Process → ℕ → SharedReadMark

@@ -2,7 +2,7 @@
 use mathlib.Core.Path.{_≡_, refl, ap, _∙_, subst}
 use mathlib.Core.Bool.{Bool, true, false, cond}
 use mathlib.Core.List.{List, []}
-use Prim.Native.Nat.{ℕ, _-_, _<_, _≤_}
+use Prim.Native.Nat.{ℕ, _<_, _≤_}
 use native.Mathlib.Omega.{arith}
 use lib.Dec.{eqb, ltb}
 use lib.ListN.{length, getD}
@@ -20,6 +20,7 @@ use Rattle.reader_slots.specs.Slots.{short-slots, with-local}
 use Rattle.reader_register.specs.Register.{chosen-slot, slot-answer, hold-found, registers, register-tests, register-reader}
 use Rattle.reader_moves.specs.Update.{releases-slot}
 use Rattle.reader_slots.proofs.Kept.{slot-same, emptied-other}
+use Rattle.reader_slots.proofs.Calls.{none-applies, neither-true}
 use Rattle.reader_register.proofs.Taken.{TookSlot, register-took}
 use Rattle.reader_marks.specs.declared.Record.{Record}
 use Rattle.reader_marks.specs.declared.Record.the-variants.{At, Nothing}
@@ -28,7 +29,7 @@ use Rattle.reader_shared.specs.Shared.{no-room, share-tests, new-record, shares
 use Rattle.sequence.specs.Sequence.{share-op, unshare-op, shared-op}
 use Rattle.sequence.specs.Hold.{counted}
 use Rattle.sequence.proofs.SlotsAside.{by-tests}
-use Rattle.sequence.proofs.SlotsCells.{not-both, neither-true, both-true, none-applies, rec-at, Fitting, record-found, NoRecord, record-missing, empty-found}
+use Rattle.sequence.proofs.SlotsCells.{not-both, both-true, rec-at, Fitting, record-found, NoRecord, record-missing, empty-found}
 use Rattle.sequence.proofs.SlotsStep.{HeldKept, HeldStay, OtherRecords, Step, quiet, joined, opened, left, closed, nothing-done, other-held, register-done, register-held, register-stay}
 
 -- a count that stays whether the mark is its own or not

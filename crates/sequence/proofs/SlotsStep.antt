@@ -25,12 +25,13 @@ use Rattle.reader_slots.specs.Search.{found-slot}
 use Rattle.reader_limit.specs.Limit.{limit-of, copy-back-limit}
 use Rattle.reader_slots.proofs.Kept.{SlotSame, slot-same, emptied-other}
 use Rattle.reader_floor.proofs.Kept.{dead-keeps}
+use Rattle.reader_slots.proofs.Calls.{none-applies, neither-true}
 use Rattle.reader_register.proofs.Taken.{register-keeps}
 use Rattle.reader_marks.specs.Registry.{one-more, one-less}
 use Rattle.sequence.specs.Sequence.{move-op, release-op, slot-op}
 use Rattle.sequence.specs.Hold.{Ending, by-release, by-move}
 use Rattle.sequence.proofs.SlotsAside.{by-tests, Leaves}
-use Rattle.sequence.proofs.SlotsCells.{neither-true, none-applies, rec-at, Fitting, NoRecord, NotNamed, not-named}
+use Rattle.sequence.proofs.SlotsCells.{rec-at, Fitting, NoRecord, NotNamed, not-named}
 
 -- slots held here keep their cells; all slots but one do
 abbrev pub HeldKept : Memory → Process → Memory → Type 0

@@ -1,6 +1,6 @@
-use mathlib.Core.Path.{_∙_}
+use Rattle.reader_moves.proofs.Released.{move-reader, move-shared, move-done}
 use Rattle.reader_moves.specs.Update.{update-reader}
-use borrow.Author.Tests.{eq-eqb, ne-eqb, le-leb, lt-leb, lt-ltb, le-ltb}
+use borrow.Author.Tests.{ne-eqb, le-leb, lt-leb, lt-ltb, le-ltb}
 use borrow.Author.Needs.{needs}
 use Rattle.reader_moves.proofs.update.update_core.Statement.{statement}
 use Rattle.reader_moves.proofs.update.update_core.Tie as tie
@@ -39,17 +39,14 @@ returns-7 : tie.Need-returns-7
 unfolding update-reader
 returns-7 c = λ z p s g. rw (g, le-leb _ _ (c .before .before .before .before .before .before .before .before .if1 .left), le-leb _ _ (c .before .before .before .before .before .before .before .if2 .left), le-ltb _ _ (c .before .before .before .before .before .before .if3 .left), le-ltb _ _ (c .before .before .before .before .before .if4 .left), le-ltb _ _ (c .before .before .before .before .if5 .left), lt-leb _ _ (c .before .before .before .if6 .left), ne-eqb _ _ (c .if7 .taken))
 
+reader-refusal-requires : tie.Need-reader-refusal-requires
+reader-refusal-requires c κs = search needs
+
 returns-8 : tie.Need-returns-8
-unfolding update-reader
-returns-8 c = λ z p s g. rw (g, le-leb _ _ (c .before .before .before .before .before .before .before .before .before .before .if1 .left), le-leb _ _ (c .before .before .before .before .before .before .before .before .before .if2 .left), le-ltb _ _ (c .before .before .before .before .before .before .before .before .if3 .left), le-ltb _ _ (c .before .before .before .before .before .before .before .if4 .left), le-ltb _ _ (c .before .before .before .before .before .before .if5 .left), lt-leb _ _ (c .before .before .before .before .before .if6 .left), eq-eqb _ _ (c .before .before .if7 .left), eq-eqb _ _ (c .if8 .taken))
+returns-8 c = move-reader _ _ _ _ _ _ _ _ (c .before .before .before .before .before .before .before .before .before .before .if1 .left) (c .before .before .before .before .before .before .before .before .before .if2 .left) (c .before .before .before .before .before .before .before .before .if3 .left) (c .before .before .before .before .before .before .before .if4 .left) (c .before .before .before .before .before .before .if5 .left) (c .before .before .before .before .before .if6 .left) (c .before .before .if7 .left) _ (c .before .reader-refusal .ensures) (c .if8 .taken)
 
 returns-9 : tie.Need-returns-9
-unfolding update-reader
-returns-9 c = λ z p s g. rw (g, le-leb _ _ (c .before .before .before .before .before .before .before .before .before .before .before .if1 .left), le-leb _ _ (c .before .before .before .before .before .before .before .before .before .before .if2 .left), le-ltb _ _ (c .before .before .before .before .before .before .before .before .before .if3 .left), le-ltb _ _ (c .before .before .before .before .before .before .before .before .if4 .left), le-ltb _ _ (c .before .before .before .before .before .before .before .if5 .left), lt-leb _ _ (c .before .before .before .before .before .before .if6 .left), eq-eqb _ _ (c .before .before .before .if7 .left), ne-eqb _ _ (c .before .if8 .left), eq-eqb _ _ (c .if9 .taken))
-
-returns-10 : tie.Need-returns-10
-unfolding update-reader
-returns-10 c = λ z p s g. rw (g, le-leb _ _ (c .before .before .before .before .before .before .before .before .before .before .before .before .if1 .left), le-leb _ _ (c .before .before .before .before .before .before .before .before .before .before .before .if2 .left), le-ltb _ _ (c .before .before .before .before .before .before .before .before .before .before .if3 .left), le-ltb _ _ (c .before .before .before .before .before .before .before .before .before .if4 .left), le-ltb _ _ (c .before .before .before .before .before .before .before .before .if5 .left), lt-leb _ _ (c .before .before .before .before .before .before .before .if6 .left), eq-eqb _ _ (c .before .before .before .before .if7 .left), ne-eqb _ _ (c .before .before .if8 .left), ne-eqb _ _ (c .before .if9 .left), s ∙ c .if10 .taken)
+returns-9 c = move-shared _ _ _ _ _ _ _ _ (c .before .before .before .before .before .before .before .before .before .before .before .if1 .left) (c .before .before .before .before .before .before .before .before .before .before .if2 .left) (c .before .before .before .before .before .before .before .before .before .if3 .left) (c .before .before .before .before .before .before .before .before .if4 .left) (c .before .before .before .before .before .before .before .if5 .left) (c .before .before .before .before .before .before .if6 .left) (c .before .before .before .if7 .left) _ (c .before .before .reader-refusal .ensures) (c .before .if8 .left) (c .if9 .taken)
 
 mul-reader-frames : tie.Need-mul-reader-frames
 mul-reader-frames c = search needs
@@ -60,9 +57,8 @@ slice-write-reader-frames c = search needs
 same-length : tie.Need-same-length
 same-length c = search needs
 
-returns-11 : tie.Need-returns-11
-unfolding update-reader
-returns-11 c = λ z p s g. rw (g, le-leb _ _ (c .before .before .before .before .before .before .before .before .before .before .before .before .if1 .left), le-leb _ _ (c .before .before .before .before .before .before .before .before .before .before .before .if2 .left), le-ltb _ _ (c .before .before .before .before .before .before .before .before .before .before .if3 .left), le-ltb _ _ (c .before .before .before .before .before .before .before .before .before .if4 .left), le-ltb _ _ (c .before .before .before .before .before .before .before .before .if5 .left), lt-leb _ _ (c .before .before .before .before .before .before .before .if6 .left), eq-eqb _ _ (c .before .before .before .before .if7 .left), ne-eqb _ _ (c .before .before .if8 .left), ne-eqb _ _ (c .before .if9 .left), s ∙ c .if10 .left)
+returns-10 : tie.Need-returns-10
+returns-10 c = move-done _ _ _ _ _ _ _ _ (c .before .before .before .before .before .before .before .before .before .before .before .if1 .left) (c .before .before .before .before .before .before .before .before .before .before .if2 .left) (c .before .before .before .before .before .before .before .before .before .if3 .left) (c .before .before .before .before .before .before .before .before .if4 .left) (c .before .before .before .before .before .before .before .if5 .left) (c .before .before .before .before .before .before .if6 .left) (c .before .before .before .if7 .left) _ (c .before .before .reader-refusal .ensures) (c .before .if8 .left) (c .if9 .left)
 
 pub update-core-spec : {M : Type 1} → statement M
 update-core-spec =
@@ -77,10 +73,10 @@ update-core-spec =
     mul-if7
     shared-slice-read-if7
     returns-7
+    reader-refusal-requires
     returns-8
     returns-9
-    returns-10
     mul-reader-frames
     slice-write-reader-frames
     same-length
-    returns-11)
+    returns-10)
