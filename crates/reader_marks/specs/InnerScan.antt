@@ -46,14 +46,10 @@ abbrev pub is-found : Record → Bool
 is-found (At i) = true
 is-found Nothing = false
 
--- What is seen of the first n records: the mark's and, where it has none, the first empty one. Where it has one, nothing more is
--- looked for.
-abbrev pub left-at : Record → ℕ → ℕ
-left-at (At i) n = 0
-left-at Nothing n = n
-
-abbrev pub left-to-see : Found → ℕ → ℕ
-left-to-see found n = left-at (found .place) n
+-- What is seen of the first n records: the mark's and, where it has none, the first empty one. A scan that finds the mark looks
+-- no further.
+abbrev pub seen-alone : Found → Seen
+seen-alone found = record { place = found .place; item = found .item; empty = Nothing }
 
 abbrev pub seen-with : Found → Found → Seen
 seen-with found free = record { place = found .place; item = found .item; empty = free .place }

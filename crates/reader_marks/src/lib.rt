@@ -7,7 +7,7 @@ ghost use mathlib.Core.Bool.{_&&_, cond};
 ghost use Rattle.reader_marks.specs.declared.Wanted.the-variants.{Mark, Slot, Empty};
 ghost use Rattle.reader_marks.specs.Registry.{is-empty, one-less};
 ghost use Rattle.reader_marks.specs.InnerChange.{one-more-below, first-held};
-ghost use Rattle.reader_marks.specs.InnerScan.{picks, wants-use, none-picked, nothing-found, found-here, is-found, left-to-see, seen-with};
+ghost use Rattle.reader_marks.specs.InnerScan.{picks, wants-use, none-picked, nothing-found, found-here, is-found, seen-alone, seen-with};
 
 // A record has no more holders than this.
 pub const MOST_HOLDERS: u32 = 65535;
@@ -157,28 +157,30 @@ pub fn is_found(place: Record) -> bool
     }
 }
 
-// How many of n records a scan for an empty one looks at: none where the mark has a record.
-pub fn left_to_see(found: Found, n: usize) -> usize
-    ensures { λ r. ⌜ r ≡ left-to-see found n ⌝ }
-{
-    let place = found.place;
-    match place {
-        Record::At(i) => 0,
-        Record::Nothing => n,
-    }
-}
-
-// What is seen: the record of the mark, and the first empty one.
-pub fn seen_with(found: Found, free: Found) -> Seen
-    ensures { λ r. ⌜ r ≡ seen-with found free ⌝ }
+// What is seen where the mark has a record, and where it has none.
+pub fn seen_alone(found: Found) -> Seen
+    ensures { λ r. ⌜ r ≡ seen-alone found ⌝ }
 {
     let place = found.place;
     let item = found.item;
-    let empty = free.place;
+    let free = Record::Nothing;
     Seen {
         place: place,
         item: item,
-        empty: empty,
+        empty: free,
+    }
+}
+
+pub fn seen_with(found: Found, empty: Found) -> Seen
+    ensures { λ r. ⌜ r ≡ seen-with found empty ⌝ }
+{
+    let place = found.place;
+    let item = found.item;
+    let free = empty.place;
+    Seen {
+        place: place,
+        item: item,
+        empty: free,
     }
 }
 

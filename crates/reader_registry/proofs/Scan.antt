@@ -18,7 +18,7 @@ use Rattle.reader_marks.specs.declared.Wanted.the-variants.{Mark, Slot, Empty}
 use Rattle.reader_marks.specs.declared.Found.{Found}
 use Rattle.reader_marks.specs.declared.Seen.{Seen}
 use Rattle.reader_marks.specs.Registry.{first-record, record-of, empty-record}
-use Rattle.reader_marks.specs.InnerScan.{picks, none-picked, nothing-found, found-here, found-at, found-of, is-found, left-at, left-to-see, seen-with, empty-unless, item-at, seen-of}
+use Rattle.reader_marks.specs.InnerScan.{picks, none-picked, nothing-found, found-here, found-at, found-of, is-found, seen-alone, seen-with, empty-unless, item-at, seen-of}
 
 -- the first record found, with one record more at the end
 abbrev first-of : Record → Bool → ℕ → Record
@@ -198,28 +198,48 @@ shared-found registry n slot found e =
     rw (e, place-of registry (first-record (picks (Slot slot)) registry (min n (length registry)) 0))
     (shared-among registry slot (min n (length registry)) ∙ shared-all registry slot n)
 
--- what both scans have found, the second of which looks at no record where the first has found one
-module _ (registry : List SharedReadMark) (n mark : ℕ) where
-  abbrev among : ℕ
-  among = min n (length registry)
+-- both scans together, or the first alone
+module _ (registry : List SharedReadMark) (n mark : ℕ) (found : Found) (e : found ≡ found-of (picks (Mark mark)) registry n) where
+  abbrev place : Record
+  place = record-of n registry mark
 
-  empty-found : (place : Record) → found-of (picks Empty) registry (min (left-at place n) (length registry)) .place ≡ empty-unless place among registry
-  unfolding found-of picks first-record
-  empty-found (At k) = let e : min 0 (length registry) ≡ 0 = omega arith in rw e
-  empty-found Nothing = place-of registry (empty-record among registry)
+  its-place : found .place ≡ place
+  unfolding found-of picks
+  its-place = rw (e, place-of registry place)
 
-  pub both-seen : (wanted : Wanted) (found : Found) (left : ℕ) (wanted-next : Wanted) (free : Found) (seen : Seen)
-      → wanted ≡ Mark mark → found ≡ found-of (picks wanted) registry among → left ≡ left-to-see found n
-      → wanted-next ≡ Empty → free ≡ found-of (picks wanted-next) registry (min left (length registry)) → seen ≡ seen-with found free → seen ≡ seen-of among registry mark
-  unfolding seen-of found-of picks
-  both-seen wanted found left wanted-next free seen is-mark is-found is-left is-empty is-free e =
-      rw (e, its-item, its-place, is-free, is-empty, is-left, its-place, empty-found (record-of among registry mark))
+  its-item : found .item ≡ item-at registry place
+  unfolding found-of picks
+  its-item = rw (e, item-of registry place)
+
+  alone-seen : (t : Bool) → t ≡ is-found (found .place) → T t → seen-alone found ≡ seen-of n registry mark
+  unfolding seen-of
+  alone-seen t q y = rw (its-item, its-place) (rw (sym (is-at place (subst T (q ∙ ap is-found its-place) y))))
     where
-      its-place : found .place ≡ record-of among registry mark
-      its-place = rw (is-found, is-mark, place-of registry (record-of among registry mark))
+      is-at : (r : Record) → T (is-found r) → empty-unless r n registry ≡ Nothing
+      is-at (At i) h = refl
+      is-at Nothing h = absurd h
 
-      its-item : found .item ≡ item-at registry (record-of among registry mark)
-      its-item = rw (is-found, is-mark, item-of registry (record-of among registry mark))
+  both-seen : (t : Bool) → t ≡ is-found (found .place) → T (not t) → (free : Found) → free ≡ found-of (picks Empty) registry n → seen-with found free ≡ seen-of n registry mark
+  unfolding seen-of found-of picks
+  both-seen t q y free f =
+      rw (its-item, its-place, f, place-of registry (empty-record n registry))
+      (rw (sym (is-not place (subst (λ (u : Bool). T (not u)) (q ∙ ap is-found its-place) y))))
+    where
+      is-not : (r : Record) → T (not (is-found r)) → empty-unless r n registry ≡ empty-record n registry
+      is-not (At i) h = absurd h
+      is-not Nothing h = refl
+
+-- what is seen, by what the scan for the mark told, and that for an empty record where it found none
+module _ (registry : List SharedReadMark) (n mark : ℕ) (wanted : Wanted) (found : Found) (told : Bool) (w : wanted ≡ Mark mark) (f : found ≡ found-of (picks wanted) registry (min n (length registry))) (t : told ≡ is-found (found .place)) (seen : Seen) where
+  its-scan : found ≡ found-of (picks (Mark mark)) registry (min n (length registry))
+  its-scan = subst (λ (k : Wanted). found ≡ found-of (picks k) registry (min n (length registry))) w f
+
+  pub alone-told : T told → seen ≡ seen-alone found → seen ≡ seen-of (min n (length registry)) registry mark
+  alone-told y e = e ∙ alone-seen registry (min n (length registry)) mark found its-scan told t y
+
+  pub both-told : T (not told) → (next : Wanted) (free : Found) → next ≡ Empty → free ≡ found-of (picks next) registry (min n (length registry)) → seen ≡ seen-with found free → seen ≡ seen-of (min n (length registry)) registry mark
+  both-told y next free v g e =
+      e ∙ both-seen registry (min n (length registry)) mark found its-scan told t y free (subst (λ (k : Wanted). free ≡ found-of (picks k) registry (min n (length registry))) v g)
 
 -- a scan for a slot tells whether one of the first n records is in use for it
 pub slot-told : (registry : List SharedReadMark) (n slot : ℕ) (wanted : Wanted) (found : Found) (told : Bool) → wanted ≡ Slot slot → found ≡ found-of (picks wanted) registry (min n (length registry)) → told ≡ is-found (found .place) → told ≡ in-registry n registry slot

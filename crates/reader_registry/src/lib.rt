@@ -7,8 +7,7 @@ use wal_types::SharedOwnerRecord;
 use wal_types::SharedReadMark;
 ghost use mathlib.Core.Path.{_≡_};
 ghost use Prim.Native.Nat.{min};
-ghost use lib.ListN.{length, getD, set};
-ghost use Rattle.wal_types.specs.Memory.{no-mark};
+ghost use lib.ListN.{length};
 ghost use Rattle.reader_slots.specs.Slots.{in-registry};
 ghost use Rattle.reader_marks.specs.InnerChange.{retained, published, released};
 ghost use Rattle.reader_marks.specs.InnerScan.{picks, found-of, seen-of};
@@ -52,8 +51,10 @@ pub fn look_through(registry: &[SharedReadMark], n: usize, mark: u64) -> Seen
     ensures { λ r. ⌜ r ≡ seen-of (min n (length (now (registry .entry)))) (now (registry .entry)) mark ⌝ }
 {
     let found = first_record(registry, n, reader_marks::mark_wanted(mark));
-    let left = reader_marks::left_to_see(found, n);
-    let free = first_record(registry, left, reader_marks::empty_wanted());
+    if reader_marks::is_found(found.place) {
+        return reader_marks::seen_alone(found);
+    }
+    let free = first_record(registry, n, reader_marks::empty_wanted());
     reader_marks::seen_with(found, free)
 }
 
@@ -65,32 +66,13 @@ pub fn slot_is_shared(registry: &[SharedReadMark], n: usize, slot: usize) -> boo
     reader_marks::is_found(found.place)
 }
 
-// The record in a place; past the end, an empty one.
-fn record_at(registry: &[SharedReadMark], at: usize) -> SharedReadMark
-    ensures { λ r. ⌜ r ≡ getD (now (registry .entry)) at no-mark ⌝ }
-{
-    if at < registry.len() {
-        return registry[at];
-    }
-    let none = reader_marks::nothing_found();
-    none.item
-}
-
-// Writes a record over the one in a place. Past the end nothing is written.
-fn put_record(registry: &mut [SharedReadMark], at: usize, item: SharedReadMark)
-    ensures { λ _. ⌜ now (registry .exit) ≡ set (now (registry .entry)) at item ⌝ }
-{
-    if at < registry.len() {
-        registry[at] = item;
-    }
-}
-
 // A connection more shares the mark of a record. Past the end nothing is written.
 pub fn retain_shared_snapshot_reader(registry: &mut [SharedReadMark], at: usize)
     ensures { λ _. ⌜ now (registry .exit) ≡ retained at (now (registry .entry)) ⌝ }
 {
-    let item = record_at(registry, at);
-    put_record(registry, at, reader_marks::with_holder_more(item));
+    if at < registry.len() {
+        registry[at] = reader_marks::with_holder_more(registry[at]);
+    }
 }
 
 // A new mark for connections to share, in an empty record. Past the end nothing is written.
@@ -103,13 +85,16 @@ pub fn publish_shared_snapshot_reader(
 )
     ensures { λ _. ⌜ now (registry .exit) ≡ published at mark slot owner (now (registry .entry)) ⌝ }
 {
-    put_record(registry, at, reader_marks::first_held(mark, slot, owner));
+    if at < registry.len() {
+        registry[at] = reader_marks::first_held(mark, slot, owner);
+    }
 }
 
 // A connection less shares the mark of a record. Past the end nothing is written.
 pub fn release_shared_snapshot_reader(registry: &mut [SharedReadMark], at: usize)
     ensures { λ _. ⌜ now (registry .exit) ≡ released at (now (registry .entry)) ⌝ }
 {
-    let item = record_at(registry, at);
-    put_record(registry, at, reader_marks::with_holder_less(item));
+    if at < registry.len() {
+        registry[at] = reader_marks::with_holder_less(registry[at]);
+    }
 }
