@@ -2,7 +2,7 @@
 use mathlib.Core.Path.{_≡_, refl, sym, ap, _∙_}
 use mathlib.Core.Bool.{Bool, true, false, _&&_}
 use mathlib.Core.List.{List, [], _∷_}
-use Prim.Native.Nat.{ℕ, _≤_, min}
+use Prim.Native.Nat.{ℕ, _<_, _≤_, min}
 use native.Mathlib.Omega.{arith}
 use lib.Dec.{leb}
 use lib.ListN.{length, getD, length-set}
@@ -10,28 +10,45 @@ use lib.Seq.{set-out}
 use Rattle.wal_types.specs.declared.SharedReadMark.{SharedReadMark}
 use Rattle.wal_types.specs.declared.SharedWalOwnershipMode.{SharedWalOwnershipMode}
 use Rattle.wal_types.specs.Settings.{most-holders}
-use Rattle.wal_types.specs.Memory.{Memory, Process, no-mark}
+use Rattle.wal_types.specs.Memory.{Memory, Process, no-mark, blank-memory, blank-process}
 use Rattle.wal_types.specs.Refusal.{Test, _if_, lowest, registry-full, card}
-use Rattle.wal_types.specs.Call.{Answer, slot-taken, none, Done, after, done}
+use Rattle.wal_types.specs.Call.{Answer, none, Done, after, done}
 use Rattle.reader_slots.specs.declared.slots.Slot.{Slot}
 use Rattle.reader_slots.specs.declared.slots.Slot.the-variants.{At as SlotAt, Nothing as NoSlot}
 use Rattle.reader_slots.specs.Slots.{bad-card, slots-in}
 use Rattle.reader_slots.specs.Search.{found-slot}
 use Rattle.reader_slots.proofs.Calls.{refuses, accepts, lowest-first, lowest-rest, Enough}
-use Rattle.reader_register.specs.Register.{chosen-slot}
+use Rattle.reader_register.specs.declared.register.Register.{Register}
+use Rattle.reader_register.specs.declared.register.Register.the-variants.{Taken, NoSlot as Turned, Refused as Denied}
+use Rattle.reader_register.specs.Register.{slot-answer, chosen-slot, register-answer}
 use Rattle.reader_register.specs.Inner.{chosen-by, RegistersCall}
-use Rattle.reader_register.proofs.Registered.{chosen-is, takes-none}
+use Rattle.reader_register.proofs.Registered.{chosen-below, chosen-is, takes-none}
 use Rattle.reader_marks.specs.declared.Record.{Record}
 use Rattle.reader_marks.specs.declared.Record.the-variants.{At, Nothing}
 use Rattle.reader_marks.specs.declared.Seen.{Seen}
 use Rattle.reader_marks.specs.Registry.{record-of, empty-record}
 use Rattle.reader_marks.specs.InnerChange.{one-more-below, first-held, retained, published}
 use Rattle.reader_marks.specs.InnerScan.{item-at, seen-of}
+use Rattle.reader_shared.specs.declared.shared.Share.{Share}
 use Rattle.reader_shared.specs.declared.shared.SharePlan.{SharePlan}
 use Rattle.reader_shared.specs.declared.shared.Share.the-variants.{NoSlot as NotTaken, Refused as NotShared}
 use Rattle.reader_shared.specs.Shared.{no-record, no-room, share-tests, new-record, shares, register-reader-for-snapshot, share-answer, registry-in}
-use Rattle.reader_shared.specs.Inner.{shares-nothing, shares-joined, shares-published, four-tests, share-refusal, PlanCall, PlanCarried}
+use Rattle.reader_shared.specs.Inner.{shares-nothing, shares-joined, shares-published, no-record-answer, four-tests, share-refusal, PlanCall, PlanCarried}
 use Rattle.reader_shared.proofs.Refused.{share-room}
+
+-- the slot that register_checked has answered is the one chosen
+abbrev slot-of : Register → Slot
+slot-of (Taken i) = SlotAt i
+slot-of Turned = NoSlot
+slot-of (Denied k) = NoSlot
+
+told : (owner mark : ℕ) (c : Slot) (x : Register) → slot-answer owner mark c ≡ register-answer owner mark x → c ≡ slot-of x
+told owner mark (SlotAt j) (Taken i) e = let z : j ≡ i = cc in rw z
+told owner mark (SlotAt j) Turned e = let z : _≡_ {A = ℕ} 0 1 = cc in absurd (omega arith)
+told owner mark (SlotAt j) (Denied k) e = let z : _≡_ {A = ℕ} 0 1 = cc in absurd (omega arith)
+told owner mark NoSlot (Taken i) e = let z : _≡_ {A = ℕ} 0 1 = cc in absurd (omega arith)
+told owner mark NoSlot Turned e = refl
+told owner mark NoSlot (Denied k) e = refl
 
 -- what is seen of the first n records, where there are so many
 pub seen-parts : (n : ℕ) (r : List SharedReadMark) (mark : ℕ) (seen : Seen) → seen ≡ seen-of (min n (length r)) r mark → n ≤ length r → (record-of n r mark ≡ seen .place) × ((item-at r (record-of n r mark) ≡ seen .item) × (record-of n r mark ≡ Nothing → empty-record n r ≡ seen .empty))
@@ -134,32 +151,54 @@ module _ (n : ℕ) (mode : SharedWalOwnershipMode) (owner mark : ℕ) (bytes b f
             accepts (share-tests n mode owner mark bytes) (λ m p. shares n mode owner mark bytes (record-of n (p .registry) mark) m p) (memory z) (process p r) (later z p r q ∙ rw (x, good))
             ∙ rw (unplaced r s q .0)
 
-        -- by the slot chosen
-        module _ (c : Slot) (choice : chosen-by n mode bytes b o l ≡ c) where
-          chosen : (z : Memory) (p : Process) (r : List SharedReadMark) → chosen-slot n mode bytes (memory z) (process p r) ≡ c
-          chosen z p r = chosen-is n mode bytes b o l (room .0 .words-enough) f z (process p r) ∙ choice
+        abbrev chosen : Slot
+        chosen = chosen-by n mode bytes b o l
 
-          -- and the first empty record, the call does what register_reader does, and publishes the record
-          does-both : (a : Answer) (b′ f′ o′ l′ : List ℕ) → RegistersCall n mode owner mark bytes b f o l a b′ f′ o′ l′ → (free : Record) → seen .empty ≡ free → (found-slot c && no-record free) ≡ false → (z : Memory) (p : Process) (r : List SharedReadMark) → seen ≡ seen-of (min n (length r)) r mark → records ≡ length r →
-              after (register-reader-for-snapshot n mode owner mark bytes) (memory z) (process p r) ≡ done a (slots-in z b′ f′ o′) (new-record owner mark c free (registry-in p l′ r))
+        chosen-here : (z : Memory) (p : Process) (r : List SharedReadMark) → chosen-slot n mode bytes (memory z) (process p r) ≡ chosen
+        chosen-here z p r = chosen-is n mode bytes b o l (room .0 .words-enough) f z (process p r)
+
+        -- the call does what register_checked does, and publishes the record
+        module _ (a : Answer) (b′ f′ o′ l′ : List ℕ) (does : RegistersCall n mode owner mark bytes b f o l a b′ f′ o′ l′) where
+          same-answer : slot-answer owner mark chosen ≡ a
           unfolding RegistersCall
-          does-both a b′ f′ o′ l′ g free ef x z p r s q =
-              let d = g z (process p r) in
-              made z p r s q (rw (unplaced r s q .0, good, chosen z p r, unplaced r s q .1, ef) x)
-              ∙ rw (ap (λ (d : Done). d .answer) d, ap (λ (d : Done). d .memory) d, ap (λ (d : Done). d .process) d, chosen z p r, unplaced r s q .1, ef)
+          same-answer = ap (slot-answer owner mark) (sym (chosen-here blank-memory blank-process [])) ∙ ap (λ (d : Done). d .answer) (does blank-memory (process blank-process []))
 
-          pub new-none : c ≡ NoSlot → (plan : SharePlan) → plan ≡ shares-nothing records NotTaken → Means b f o l plan
+          does-both : (c : Slot) → chosen ≡ c → (free : Record) → seen .empty ≡ free → (found-slot c && no-record free) ≡ false → (z : Memory) (p : Process) (r : List SharedReadMark) → seen ≡ seen-of (min n (length r)) r mark → records ≡ length r →
+              after (register-reader-for-snapshot n mode owner mark bytes) (memory z) (process p r) ≡ done (slot-answer owner mark c) (slots-in z b′ f′ o′) (new-record owner mark c free (registry-in p l′ r))
+          unfolding RegistersCall
+          does-both c ec free ef x z p r s q =
+              let d = does z (process p r) in
+              made z p r s q (rw (unplaced r s q .0, good, chosen-here z p r, ec, unplaced r s q .1, ef) x)
+              ∙ rw (ap (λ (d : Done). d .memory) d, ap (λ (d : Done). d .process) d, chosen-here z p r, ec, unplaced r s q .1, ef)
+
+          not-taken : chosen ≡ NoSlot → Means b′ f′ o′ l′ (shares-nothing records NotTaken)
           unfolding PlanCarried
-          new-none x plan is r s q z p =
-              rw (is, unchanged 0 r q)
-              (does-both none b f o l (takes-none n mode owner mark bytes b f o l (room .0 .words-enough) (choice ∙ x)) (seen .empty) refl (rw x) z p r s q ∙ rw x)
+          not-taken x r s q z p = rw (unchanged 0 r q) (does-both NoSlot x (seen .empty) refl refl z p r s q)
 
-          module _ (i : ℕ) (x : c ≡ SlotAt i) where
-            pub new-full : seen .empty ≡ Nothing → (plan : SharePlan) → plan ≡ shares-nothing records (NotShared 13) → Means b f o l plan
-            new-full y plan is = rw is (refused-as 13 (λ z p r s q. later z p r q ∙ rw (unplaced r s q .0, good, chosen z p r, x, unplaced r s q .1, y)) (λ q. omega arith))
+        -- no record is empty: the call is refused if a slot could be taken
+        module _ (none-empty : seen .empty ≡ Nothing) where
+          by-choice : (c : Slot) → chosen ≡ c → Means b f o l (shares-nothing records (no-record-answer (found-slot c)))
+          by-choice (SlotAt i) x = refused-as 13 (λ z p r s q. later z p r q ∙ rw (unplaced r s q .0, good, chosen-here z p r, x, unplaced r s q .1, none-empty)) (λ q. omega arith)
+          by-choice NoSlot x = not-taken none b f o l (takes-none n mode owner mark bytes b f o l (room .0 .words-enough) x) x
 
-            pub new-published : (b′ f′ o′ l′ : List ℕ) → RegistersCall n mode owner mark bytes b f o l (slot-taken i owner mark) b′ f′ o′ l′ → (free : ℕ) → seen .empty ≡ At free → (plan : SharePlan) → plan ≡ shares-published records free i (record { 0 = owner }) mark → Means b′ f′ o′ l′ plan
-            unfolding PlanCarried
-            new-published b′ f′ o′ l′ g free y plan is r s q z p =
-                rw (is, none-retained r q)
-                (does-both (slot-taken i owner mark) b′ f′ o′ l′ g (At free) y (rw x) z p r s q ∙ rw x)
+          pub new-without-record : (takes : Bool) → takes ≡ found-slot chosen → (answer : Share) → answer ≡ no-record-answer takes → (plan : SharePlan) → plan ≡ shares-nothing records answer → Means b f o l plan
+          new-without-record takes x answer y plan is = rw (is, y, x) (by-choice chosen refl)
+
+        -- register_checked has answered
+        module _ (b′ f′ o′ l′ : List ℕ) (x : Register) (does : RegistersCall n mode owner mark bytes b f o l (register-answer owner mark x) b′ f′ o′ l′) where
+          slot-told : chosen ≡ slot-of x
+          slot-told = told owner mark chosen x (same-answer (register-answer owner mark x) b′ f′ o′ l′ does)
+
+          pub taken-below : (slot : ℕ) → x ≡ Taken slot → slot < n
+          taken-below slot y = chosen-below n mode bytes b o l slot (slot-told ∙ ap slot-of y)
+
+          module _ (free : ℕ) (empty : seen .empty ≡ At free) where
+            by-answer : (y : Register) → x ≡ y → Means b′ f′ o′ l′ (shares-published records free y (record { 0 = owner }) mark)
+            unfolding PlanCarried shares-published
+            by-answer (Taken slot) e =
+                λ r s q z p. rw (none-retained r q) (does-both (register-answer owner mark x) b′ f′ o′ l′ does (SlotAt slot) (slot-told ∙ ap slot-of e) (At free) empty refl z p r s q)
+            by-answer Turned e = not-taken (register-answer owner mark x) b′ f′ o′ l′ does (slot-told ∙ ap slot-of e)
+            by-answer (Denied k) e = not-taken (register-answer owner mark x) b′ f′ o′ l′ does (slot-told ∙ ap slot-of e)
+
+            pub new-registered : (plan : SharePlan) → plan ≡ shares-published records free x (record { 0 = owner }) mark → Means b′ f′ o′ l′ plan
+            new-registered plan is = rw is (by-answer x refl)

@@ -8,7 +8,6 @@ use reader_shared::shared::Share;
 use reader_shared::shared::SharePlan;
 use reader_shared::shared::UnsharePlan;
 use reader_slots::slots;
-use reader_slots::slots::Slot;
 use wal_types::SharedOwnerRecord;
 use wal_types::SharedWalOwnershipMode;
 use wal_types::refusal;
@@ -60,16 +59,12 @@ pub fn share_plan(
         let answer = Share::Refused(refusal::CARD);
         return shared::share_nothing(records, answer);
     }
-    let Slot::At(slot) = register::chosen_slot(n, mode, bitmap, reader_owners, local_readers, card)
-    else {
-        let answer = Share::NoSlot;
-        return shared::share_nothing(records, answer);
-    };
     let Record::At(free) = empty else {
-        let answer = Share::Refused(refusal::REGISTRY_FULL);
+        let takes = register::could_take(n, mode, bitmap, reader_owners, local_readers, card);
+        let answer = shared::without_record(takes);
         return shared::share_nothing(records, answer);
     };
-    register::take_chosen(
+    let registered = register::register_checked(
         n,
         mode,
         bitmap,
@@ -77,11 +72,10 @@ pub fn share_plan(
         reader_owners,
         local_readers,
         card,
-        slot,
         owner,
         mark,
     );
-    shared::share_published(records, free, slot, owner, mark)
+    shared::share_published(records, free, registered, owner, mark)
 }
 
 // A shared release, but for what it does to the registry. As in share_plan, the contract holds for every registry that

@@ -8,14 +8,11 @@ use wal_types::SharedOwnerRecord;
 use wal_types::SharedWalOwnershipMode;
 use wal_types::refusal;
 ghost use mathlib.Core.Path.{_≡_};
-ghost use mathlib.Core.Bool.{cond};
 ghost use Prim.Native.Nat.{_+_, _/_, _<_, _≤_};
-ghost use lib.Dec.{eqb};
 ghost use lib.ListN.{length, set};
 ghost use Rattle.wal_types.specs.Store.{apply};
-ghost use Rattle.wal_types.specs.Call.{slot-taken};
-ghost use Rattle.reader_slots.specs.declared.slots.Slot.the-variants.{At};
 ghost use Rattle.reader_slots.specs.Slots.{take-slot, ReaderCall};
+ghost use Rattle.reader_slots.specs.Search.{found-slot};
 ghost use Rattle.reader_slots.specs.Inner.{SlotsBecome};
 ghost use Rattle.reader_register.specs.Register.{register-reader, register-answer};
 ghost use Rattle.reader_register.specs.Inner.{register-refusal, chosen-by, RegistersCall};
@@ -80,35 +77,9 @@ fn register_refusal(
     0
 }
 
-// The slot that a registration takes, found before anything is stored: the lowest free one; if none is free, the lowest
-// stale one, which is free once the stale slots are reclaimed.
-pub fn chosen_slot(
-    n: usize,
-    mode: SharedWalOwnershipMode,
-    bitmap: &[u64],
-    reader_owners: &[u64],
-    local_readers: &[u64],
-    card: &[u8],
-) -> Slot
-    requires { ⌜ (n ≤ 256) × (((n + 63) / 64 ≤ length (now bitmap)) × ((n ≤ length (now «reader_owners»)) × ((n ≤ length (now «local_readers»)) × (n ≤ length (now card))))) ⌝ }
-    ensures { λ r. ⌜ r ≡ chosen-by n mode (now (card .entry)) (now (bitmap .entry)) (now («reader_owners» .entry)) (now («local_readers» .entry)) ⌝ }
-{
-    if let Slot::At(slot) = available::available_slot(n, bitmap, local_readers, card) {
-        return Slot::At(slot);
-    }
-    stale::stale_slot(n, mode, bitmap, reader_owners, local_readers, card)
-}
-
-// Where the reclaim of a registration starts: at the slot chosen, which is then the lowest stale one. If that slot is
-// free, nothing is reclaimed.
-fn reclaim_start(n: usize, slot: usize, bit: u64) -> usize
-    ensures { λ r. ⌜ r ≡ cond (eqb bit 1) n slot ⌝ }
-{
-    if bit == 1 { n } else { slot }
-}
-
-// Registers a reader in the slot chosen, after the reclaim that it may need.
-pub fn take_chosen(
+// register_reader where none of its refusals applies. The lowest free slot is taken; if none is free, the lowest stale
+// one, which is free once the stale slots are reclaimed.
+pub fn register_checked(
     n: usize,
     mode: SharedWalOwnershipMode,
     bitmap: &mut [u64],
@@ -116,18 +87,31 @@ pub fn take_chosen(
     reader_owners: &mut [u64],
     local_readers: &mut [u64],
     card: &[u8],
-    slot: usize,
     owner: SharedOwnerRecord,
     mark: u64,
-)
-    requires { ⌜ ((n ≤ 256) × (((n + 63) / 64 ≤ length (now bitmap)) × ((n ≤ length (now «reader_frames»)) × ((n ≤ length (now «reader_owners»)) × ((n ≤ length (now «local_readers»)) × (length (now card) ≡ n)))))) × (chosen-by n mode (now card) (now bitmap) (now «reader_owners») (now «local_readers») ≡ At slot) ⌝ }
-    ensures { λ _. ⌜ RegistersCall n mode (owner .0) mark (now (card .entry)) (now (bitmap .entry)) (now («reader_frames» .entry)) (now («reader_owners» .entry)) (now («local_readers» .entry)) (slot-taken slot (owner .0) mark) (now (bitmap .exit)) (now («reader_frames» .exit)) (now («reader_owners» .exit)) (now («local_readers» .exit)) ⌝ }
+) -> Register
+    requires { ⌜ (n ≤ 256) × (((n + 63) / 64 ≤ length (now bitmap)) × ((n ≤ length (now «reader_frames»)) × ((n ≤ length (now «reader_owners»)) × ((n ≤ length (now «local_readers»)) × (length (now card) ≡ n))))) ⌝ }
+    ensures { λ r. ⌜ RegistersCall n mode (owner .0) mark (now (card .entry)) (now (bitmap .entry)) (now («reader_frames» .entry)) (now («reader_owners» .entry)) (now («local_readers» .entry)) (register-answer (owner .0) mark r) (now (bitmap .exit)) (now («reader_frames» .exit)) (now («reader_owners» .exit)) (now («local_readers» .exit)) ⌝ }
 {
-    let bit = reader_bitmap::bit(bitmap[slot / 64], (slot % 64) as u32);
-    let first = reclaim_start(n, slot, bit);
+    if let Slot::At(slot) = available::available_slot(n, bitmap, local_readers, card) {
+        take_slot(
+            bitmap,
+            reader_frames,
+            reader_owners,
+            local_readers,
+            slot,
+            owner,
+            mark,
+        );
+        return Register::Taken(slot);
+    }
+    let Slot::At(slot) = stale::stale_slot(n, mode, bitmap, reader_owners, local_readers, card)
+    else {
+        return Register::NoSlot;
+    };
     stale::reclaim_stale_reader_slots(
         n,
-        first,
+        slot,
         mode,
         bitmap,
         reader_frames,
@@ -144,6 +128,29 @@ pub fn take_chosen(
         owner,
         mark,
     );
+    Register::Taken(slot)
+}
+
+// Whether a registration could take a slot: one is free, or else one is stale.
+pub fn could_take(
+    n: usize,
+    mode: SharedWalOwnershipMode,
+    bitmap: &[u64],
+    reader_owners: &[u64],
+    local_readers: &[u64],
+    card: &[u8],
+) -> bool
+    requires { ⌜ (n ≤ 256) × (((n + 63) / 64 ≤ length (now bitmap)) × ((n ≤ length (now «reader_owners»)) × ((n ≤ length (now «local_readers»)) × (n ≤ length (now card))))) ⌝ }
+    ensures { λ r. ⌜ r ≡ found-slot (chosen-by n mode (now (card .entry)) (now (bitmap .entry)) (now («reader_owners» .entry)) (now («local_readers» .entry))) ⌝ }
+{
+    if let Slot::At(found) = available::available_slot(n, bitmap, local_readers, card) {
+        return true;
+    }
+    let Slot::At(found) = stale::stale_slot(n, mode, bitmap, reader_owners, local_readers, card)
+    else {
+        return false;
+    };
+    true
 }
 
 // Takes a reader slot for a read transaction at a mark. The mark in the slot keeps checkpoints from copying past it.
@@ -173,10 +180,7 @@ pub fn register_reader(
     if refused != 0 {
         return Register::Refused(refused);
     }
-    let Slot::At(slot) = chosen_slot(n, mode, bitmap, reader_owners, local_readers, card) else {
-        return Register::NoSlot;
-    };
-    take_chosen(
+    register_checked(
         n,
         mode,
         bitmap,
@@ -184,9 +188,7 @@ pub fn register_reader(
         reader_owners,
         local_readers,
         card,
-        slot,
         owner,
         mark,
-    );
-    Register::Taken(slot)
+    )
 }

@@ -3,7 +3,7 @@
 use mathlib.Core.Path.{_≡_}
 use mathlib.Core.Bool.{Bool, not, _&&_, _||_, cond}
 use mathlib.Core.List.{List, [], _∷_, _++_}
-use Prim.Native.Nat.{ℕ, min}
+use Prim.Native.Nat.{ℕ, _<_, min}
 use lib.Dec.{eqb, leb}
 use lib.ListN.{length}
 use Rattle.wal_types.specs.declared.SharedOwnerRecord.{SharedOwnerRecord}
@@ -15,9 +15,11 @@ use Rattle.wal_types.specs.Call.{Call, Carried, Answer, after}
 use Rattle.reader_slots.specs.Inner.{registry-tests, reader-tests}
 use Rattle.reader_marks.specs.declared.Seen.{Seen}
 use Rattle.reader_marks.specs.InnerScan.{seen-of}
+use Rattle.reader_register.specs.declared.register.Register.{Register}
+use Rattle.reader_register.specs.declared.register.Register.the-variants.{Taken as RegisterTaken, NoSlot as RegisterNone, Refused as RegisterRefused}
 use Rattle.reader_moves.specs.declared.update.Release.the-variants.{Released, Refused as NotReleased}
 use Rattle.reader_shared.specs.declared.shared.Share.{Share}
-use Rattle.reader_shared.specs.declared.shared.Share.the-variants.{Taken, Refused as NotShared}
+use Rattle.reader_shared.specs.declared.shared.Share.the-variants.{Taken, NoSlot as NotTaken, Refused as NotShared}
 use Rattle.reader_shared.specs.declared.shared.SharePlan.{SharePlan}
 use Rattle.reader_shared.specs.declared.shared.UnsharePlan.{UnsharePlan}
 use Rattle.reader_shared.specs.Shared.{SharedCarried}
@@ -35,10 +37,20 @@ shares-joined records found item mark bad =
     (shares-nothing records (NotShared 14))
     (record { retained = found; published = records; slot = 0; answer = Taken (item .slot) (item .owner) mark }))
 
--- the plan for a new mark, in the slot taken
-abbrev pub shares-published : ℕ → ℕ → ℕ → SharedOwnerRecord → ℕ → SharePlan
-shares-published records free slot owner mark =
+-- the slot that register_checked has answered is a 32-bit number
+abbrev pub SlotFits : Register → Type 0
+SlotFits registered = (slot : ℕ) → registered ≡ RegisterTaken slot → slot < 4294967296
+
+-- the plan for a new mark, by what register_checked has answered
+unfoldable pub shares-published : ℕ → ℕ → Register → SharedOwnerRecord → ℕ → SharePlan
+shares-published records free (RegisterTaken slot) owner mark =
     record { retained = records; published = free; slot = slot; answer = Taken slot owner mark }
+shares-published records free RegisterNone owner mark = shares-nothing records NotTaken
+shares-published records free (RegisterRefused k) owner mark = shares-nothing records NotTaken
+
+-- the answer to a new mark where no record is empty, by whether a slot could be taken
+abbrev pub no-record-answer : Bool → Share
+no-record-answer takes = cond takes (NotShared 13) NotTaken
 
 -- the plan of a release that is refused, and of one that is made
 abbrev pub releases-nothing : ℕ → ℕ → UnsharePlan

@@ -2,6 +2,7 @@
 use reader_marks::MOST_HOLDERS;
 use reader_moves::update;
 use reader_moves::update::Release;
+use reader_register::register::Register;
 use reader_slots::slots;
 use wal_types::SharedOwnerRecord;
 use wal_types::SharedReadMark;
@@ -10,9 +11,8 @@ use wal_types::UNOWNED_LOCK;
 use wal_types::refusal;
 ghost use mathlib.Core.Path.{_≡_};
 ghost use mathlib.Core.Bool.{_&&_};
-ghost use Prim.Native.Nat.{_<_};
 ghost use lib.Dec.{eqb};
-ghost use Rattle.reader_shared.specs.Inner.{shares-nothing, shares-joined, shares-published, share-refusal, releases-nothing, releases-one, last-refusal, mark-refusal, unshare-refusal};
+ghost use Rattle.reader_shared.specs.Inner.{shares-nothing, shares-joined, SlotFits, shares-published, no-record-answer, share-refusal, releases-nothing, releases-one, last-refusal, mark-refusal, unshare-refusal};
 
 // Taken is the reader's slot with its owner, who is the first holder, and its mark. Refused changes nothing, and neither
 // does NoSlot.
@@ -71,17 +71,21 @@ pub fn share_joined(
     }
 }
 
-// A new mark, in the slot that is taken for it: a record is published for the slot, in the empty place free.
+// A new mark, by what register_checked has answered: a record is published for the slot taken, in the empty place free.
 pub fn share_published(
     records: usize,
     free: usize,
-    slot: usize,
+    registered: Register,
     owner: SharedOwnerRecord,
     mark: u64,
 ) -> SharePlan
-    requires { ⌜ slot < 4294967296 ⌝ }
-    ensures { λ r. ⌜ r ≡ shares-published records free slot owner mark ⌝ }
+    requires { ⌜ SlotFits registered ⌝ }
+    ensures { λ r. ⌜ r ≡ shares-published records free registered owner mark ⌝ }
 {
+    let Register::Taken(slot) = registered else {
+        let none = Share::NoSlot;
+        return share_nothing(records, none);
+    };
     let number = slot as u32;
     let answer = Share::Taken(number, owner, mark);
     SharePlan {
@@ -90,6 +94,16 @@ pub fn share_published(
         slot: number,
         answer: answer,
     }
+}
+
+// The answer to a new mark where no record is empty: refused if a slot could be taken.
+pub fn without_record(takes: bool) -> Share
+    ensures { λ r. ⌜ r ≡ no-record-answer takes ⌝ }
+{
+    if takes {
+        return Share::Refused(refusal::REGISTRY_FULL);
+    }
+    Share::NoSlot
 }
 
 // Refusal 1, 2, 9 or 10, by the lengths of the lent parts, the owner and the mark; 0 for none of them.

@@ -1,8 +1,7 @@
-use Rattle.reader_register.proofs.Registered.{chosen-below}
-use Rattle.reader_plans.proofs.Shares.{share-refused, share-joins, new-bad-card, new-none, new-full, new-published}
-use Rattle.reader_shared.proofs.Refused.{share-room}
-use Rattle.reader_slots.proofs.Card.{card-length}
+use Rattle.reader_plans.proofs.Shares.{share-refused, share-joins, new-bad-card, new-registered, taken-below, new-without-record}
 use mathlib.Core.Path.{sym, _∙_}
+use Rattle.reader_slots.proofs.Card.{card-length}
+use Rattle.reader_shared.proofs.Refused.{share-room}
 use native.Mathlib.Omega.{arith}
 use borrow.Author.Needs.{needs}
 use Rattle.reader_plans.proofs.share_plan.Statement.{statement}
@@ -38,14 +37,17 @@ share-nothing-requires-2 c κs = search needs
 returns-3 : tie.Need-returns-3
 returns-3 c = new-bad-card _ _ _ _ _ _ _ _ _ _ (c .before .before .before .before .before .before .before .before .before .before .before .before .before .args .seen) _ (c .before .before .before .before .before .before .share-refusal .ensures) (c .before .before .before .before .before .if1 .left) (c .before .before .enum-told .given .1) (sym (c .before .before .before .before .bad-card .ensures) ∙ c .before .if2 .taken) _ (c .share-nothing2 .ensures)
 
-chosen-slot-requires : tie.Need-chosen-slot-requires
-chosen-slot-requires c κs = let h = share-room _ _ _ _ _ _ _ _ _ (c .before .before .before .before .before .before .before .before .share-refusal .ensures) (c .before .before .before .before .before .before .before .if1 .left) .0 in let q = card-length (c .before .before .before .before .before .before .before .before .before .before .before .before .before .before .before .args .n) (c .before .before .before .before .before .before .before .before .before .before .before .before .before .before .before .args .card .now) (sym (c .before .before .before .before .before .before .bad-card .ensures) ∙ c .before .before .before .if2 .left) in omega arith
-
-enum-known-slot : tie.Need-enum-known-slot
-enum-known-slot c = search needs
+enum-known-empty : tie.Need-enum-known-empty
+enum-known-empty c = search needs
 
 enum-told-2 : tie.Need-enum-told-2
 enum-told-2 c = search needs
+
+could-take-requires : tie.Need-could-take-requires
+could-take-requires c κs = let h = share-room _ _ _ _ _ _ _ _ _ (c .before .before .before .before .before .before .before .before .before .before .share-refusal .ensures) (c .before .before .before .before .before .before .before .before .before .if1 .left) .0 in let q = card-length (c .before .before .before .before .before .before .before .before .before .before .before .before .before .before .before .before .before .args .n) (c .before .before .before .before .before .before .before .before .before .before .before .before .before .before .before .before .before .args .card .now) (sym (c .before .before .before .before .before .before .before .before .bad-card .ensures) ∙ c .before .before .before .before .before .if2 .left) in omega arith
+
+without-record-requires : tie.Need-without-record-requires
+without-record-requires c κs = search needs
 
 share-nothing-requires-3 : tie.Need-share-nothing-requires-3
 share-nothing-requires-3 c κs = search needs
@@ -60,16 +62,13 @@ same-length-3 : tie.Need-same-length-3
 same-length-3 c = search needs
 
 returns-4 : tie.Need-returns-4
-returns-4 c = new-none _ _ _ _ _ _ _ _ _ _ (c .before .before .before .before .before .before .before .before .before .before .before .before .before .before .before .before .before .before .before .args .seen) _ (c .before .before .before .before .before .before .before .before .before .before .before .before .share-refusal .ensures) (c .before .before .before .before .before .before .before .before .before .before .before .if1 .left) (c .before .before .before .before .before .before .before .before .enum-told .given .1) (sym (c .before .before .before .before .before .before .before .before .before .before .bad-card .ensures) ∙ c .before .before .before .before .before .before .before .if2 .left) _ (sym (c .before .before .before .chosen-slot .ensures)) (c .before .enum-told2 .given .1) _ (c .share-nothing3 .ensures)
+returns-4 c = new-without-record _ _ _ _ _ _ _ _ _ _ (c .before .before .before .before .before .before .before .before .before .before .before .before .before .before .before .before .before .before .before .before .args .seen) _ (c .before .before .before .before .before .before .before .before .before .before .before .before .before .share-refusal .ensures) (c .before .before .before .before .before .before .before .before .before .before .before .before .if1 .left) (c .before .before .before .before .before .before .before .before .before .enum-told .given .1) (sym (c .before .before .before .before .before .before .before .before .before .before .before .bad-card .ensures) ∙ c .before .before .before .before .before .before .before .before .if2 .left) (c .before .before .before .before .before .before .enum-told2 .given .1) _ (c .before .before .could-take .ensures) _ (c .before .without-record .ensures) _ (c .share-nothing3 .ensures)
 
-enum-known-empty : tie.Need-enum-known-empty
-enum-known-empty c = search needs
+register-checked-requires : tie.Need-register-checked-requires
+register-checked-requires c κs = let h = share-room _ _ _ _ _ _ _ _ _ (c .before .before .before .before .before .before .before .before .before .before .before .before .share-refusal .ensures) (c .before .before .before .before .before .before .before .before .before .before .before .if1 .left) .0 in let q = card-length (c .before .before .before .before .before .before .before .before .before .before .before .before .before .before .before .before .before .before .before .args .n) (c .before .before .before .before .before .before .before .before .before .before .before .before .before .before .before .before .before .before .before .args .card .now) (sym (c .before .before .before .before .before .before .before .before .before .before .bad-card .ensures) ∙ c .before .before .before .before .before .before .before .if2 .left) in omega arith
 
-enum-told-3 : tie.Need-enum-told-3
-enum-told-3 c = search needs
-
-share-nothing-requires-4 : tie.Need-share-nothing-requires-4
-share-nothing-requires-4 c κs = search needs
+share-published-requires : tie.Need-share-published-requires
+share-published-requires c κs = λ slot y. let g = share-room _ _ _ _ _ _ _ _ _ (c .before .before .before .before .before .before .before .before .before .before .before .before .before .before .before .before .before .before .before .before .before .share-refusal .ensures) (c .before .before .before .before .before .before .before .before .before .before .before .before .before .before .before .before .before .before .before .before .if1 .left) .0 .most in let q = taken-below _ _ _ _ _ _ _ _ _ _ (c .before .before .before .before .before .before .before .before .before .before .before .before .before .before .before .before .before .before .before .before .before .before .before .before .before .before .before .before .args .seen) _ (c .before .before .before .before .before .before .before .before .before .before .before .before .before .before .before .before .before .before .before .before .before .share-refusal .ensures) (c .before .before .before .before .before .before .before .before .before .before .before .before .before .before .before .before .before .before .before .before .if1 .left) (c .before .before .before .before .before .before .before .before .before .before .before .before .before .before .before .before .before .enum-told .given .1) (sym (c .before .before .before .before .before .before .before .before .before .before .before .before .before .before .before .before .before .before .before .bad-card .ensures) ∙ c .before .before .before .before .before .before .before .before .before .before .before .before .before .before .before .before .if2 .left) _ _ _ _ (c .before .before .before .before .before .before .before .before .register-checked .result) (c .before .before .before .before .before .before .before .before .register-checked .ensures) slot y in omega (arith, g, q)
 
 same-length-4 : tie.Need-same-length-4
 same-length-4 c = search needs
@@ -80,29 +79,11 @@ same-length-5 c = search needs
 same-length-6 : tie.Need-same-length-6
 same-length-6 c = search needs
 
-returns-5 : tie.Need-returns-5
-returns-5 c = new-full _ _ _ _ _ _ _ _ _ _ (c .before .before .before .before .before .before .before .before .before .before .before .before .before .before .before .before .before .before .before .before .before .before .args .seen) _ (c .before .before .before .before .before .before .before .before .before .before .before .before .before .before .before .share-refusal .ensures) (c .before .before .before .before .before .before .before .before .before .before .before .before .before .before .if1 .left) (c .before .before .before .before .before .before .before .before .before .before .before .enum-told .given .1) (sym (c .before .before .before .before .before .before .before .before .before .before .before .before .before .bad-card .ensures) ∙ c .before .before .before .before .before .before .before .before .before .before .if2 .left) _ (sym (c .before .before .before .before .before .before .chosen-slot .ensures)) _ (c .before .before .before .before .slot .given .1) (c .before .enum-told3 .given .1) _ (c .share-nothing4 .ensures)
-
-take-chosen-requires : tie.Need-take-chosen-requires
-take-chosen-requires c κs = (let h = share-room _ _ _ _ _ _ _ _ _ (c .before .before .before .before .before .before .before .before .before .before .before .before .before .before .before .before .before .before .before .share-refusal .ensures) (c .before .before .before .before .before .before .before .before .before .before .before .before .before .before .before .before .before .before .if1 .left) .0 in let q = card-length (c .before .before .before .before .before .before .before .before .before .before .before .before .before .before .before .before .before .before .before .before .before .before .before .before .before .before .args .n) (c .before .before .before .before .before .before .before .before .before .before .before .before .before .before .before .before .before .before .before .before .before .before .before .before .before .before .args .card .now) (sym (c .before .before .before .before .before .before .before .before .before .before .before .before .before .before .before .before .before .bad-card .ensures) ∙ c .before .before .before .before .before .before .before .before .before .before .before .before .before .before .if2 .left) in omega arith, sym (c .before .before .before .before .before .before .before .before .before .before .chosen-slot .ensures) ∙ c .before .before .before .before .before .before .before .before .slot .given .1)
-
-share-published-requires : tie.Need-share-published-requires
-share-published-requires c κs = let h = share-room _ _ _ _ _ _ _ _ _ (c .before .before .before .before .before .before .before .before .before .before .before .before .before .before .before .before .before .before .before .before .before .before .before .before .before .before .before .before .share-refusal .ensures) (c .before .before .before .before .before .before .before .before .before .before .before .before .before .before .before .before .before .before .before .before .before .before .before .before .before .before .before .if1 .left) .0 .most in let q = chosen-below _ _ _ _ _ _ _ (sym (c .before .before .before .before .before .before .before .before .before .before .before .before .before .before .before .before .before .before .before .chosen-slot .ensures) ∙ c .before .before .before .before .before .before .before .before .before .before .before .before .before .before .before .before .before .slot .given .1) in omega (arith, h, q)
-
 same-length-7 : tie.Need-same-length-7
 same-length-7 c = search needs
 
-same-length-8 : tie.Need-same-length-8
-same-length-8 c = search needs
-
-same-length-9 : tie.Need-same-length-9
-same-length-9 c = search needs
-
-same-length-10 : tie.Need-same-length-10
-same-length-10 c = search needs
-
-returns-6 : tie.Need-returns-6
-returns-6 c = new-published _ _ _ _ _ _ _ _ _ _ (c .before .before .before .before .before .before .before .before .before .before .before .before .before .before .before .before .before .before .before .before .before .before .before .before .before .before .before .before .before .before .before .before .before .before .before .before .args .seen) _ (c .before .before .before .before .before .before .before .before .before .before .before .before .before .before .before .before .before .before .before .before .before .before .before .before .before .before .before .before .before .share-refusal .ensures) (c .before .before .before .before .before .before .before .before .before .before .before .before .before .before .before .before .before .before .before .before .before .before .before .before .before .before .before .before .if1 .left) (c .before .before .before .before .before .before .before .before .before .before .before .before .before .before .before .before .before .before .before .before .before .before .before .before .before .enum-told .given .1) (sym (c .before .before .before .before .before .before .before .before .before .before .before .before .before .before .before .before .before .before .before .before .before .before .before .before .before .before .before .bad-card .ensures) ∙ c .before .before .before .before .before .before .before .before .before .before .before .before .before .before .before .before .before .before .before .before .before .before .before .before .if2 .left) _ (sym (c .before .before .before .before .before .before .before .before .before .before .before .before .before .before .before .before .before .before .before .before .chosen-slot .ensures)) _ (c .before .before .before .before .before .before .before .before .before .before .before .before .before .before .before .before .before .before .slot .given .1) _ _ _ _ (c .before .before .before .before .before .before .before .before .before .take-chosen .ensures) _ (c .before .before .before .before .before .before .before .before .before .before .before .before .before .before .before .empty .given .1) _ (c .share-published .ensures)
+returns-5 : tie.Need-returns-5
+returns-5 c = new-registered _ _ _ _ _ _ _ _ _ _ (c .before .before .before .before .before .before .before .before .before .before .before .before .before .before .before .before .before .before .before .before .before .before .before .before .before .before .before .before .before .args .seen) _ (c .before .before .before .before .before .before .before .before .before .before .before .before .before .before .before .before .before .before .before .before .before .before .share-refusal .ensures) (c .before .before .before .before .before .before .before .before .before .before .before .before .before .before .before .before .before .before .before .before .before .if1 .left) (c .before .before .before .before .before .before .before .before .before .before .before .before .before .before .before .before .before .before .enum-told .given .1) (sym (c .before .before .before .before .before .before .before .before .before .before .before .before .before .before .before .before .before .before .before .before .bad-card .ensures) ∙ c .before .before .before .before .before .before .before .before .before .before .before .before .before .before .before .before .before .if2 .left) _ _ _ _ (c .before .before .before .before .before .before .before .before .before .register-checked .result) (c .before .before .before .before .before .before .before .before .before .register-checked .ensures) _ (c .before .before .before .before .before .before .before .before .before .before .before .before .before .before .before .empty .given .1) _ (c .share-published .ensures)
 
 pub share-plan-spec : {M : Type 1} → statement M
 share-plan-spec =
@@ -118,25 +99,19 @@ share-plan-spec =
     enum-told
     share-nothing-requires-2
     returns-3
-    chosen-slot-requires
-    enum-known-slot
+    enum-known-empty
     enum-told-2
+    could-take-requires
+    without-record-requires
     share-nothing-requires-3
     same-length
     same-length-2
     same-length-3
     returns-4
-    enum-known-empty
-    enum-told-3
-    share-nothing-requires-4
+    register-checked-requires
+    share-published-requires
     same-length-4
     same-length-5
     same-length-6
-    returns-5
-    take-chosen-requires
-    share-published-requires
     same-length-7
-    same-length-8
-    same-length-9
-    same-length-10
-    returns-6)
+    returns-5)
