@@ -35,7 +35,7 @@ infix 10 _if_
 abbrev pub _if_ : Refusal → Bool → Test
 r if b = record { refusal = r; applies = b }
 
--- The number of the first test that applies, 0 where none does. A call's tests stand by rising number (sequence: TestsRise), so it
+-- The number of the first test that applies, 0 where none does. A call's tests stand by rising number (sequence: RefusalsInOrder), so it
 -- is the lowest that applies.
 abbrev pub lowest : List Test → ℕ
 lowest [] = 0
