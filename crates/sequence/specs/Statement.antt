@@ -46,7 +46,7 @@ module _ (s : Settings) (start : ℕ) (fresh : World) (before : List Event) (beg
     pub slot-left : Throughout (LeavesSlot s (begin .who) i) s (during ++ (now ∷ [])) at-hold
 
   -- What is owed of the call now, by its answer: "each lookup or list up to m during the hold, accepted and without a watermark,
-  -- answers by document 01's book as it stood when the hold began";
+  -- answers by document 01's book as it stood when the hold began".
   pub record Owed (op : Op) (a : Answer) : Type 0 where
     -- "a lookup gives the greatest indexed frame of the page within the bounds, or none"
     pub lookup-owed : (page low high : ℕ) → op ≡ look-op (find-op page low high NoWatermark) → high ≤ m → accepted a → a ≡ lookup-answer (greatest (book .pairs) page low high)
