@@ -1,92 +1,116 @@
 //! The calls that are measured, on the port and on the Rust.
 
 use calls::memory::{Memory, Settings, LINUX_OFD};
-use wal_coordination_sys::{self as sys, Index, ListReply};
+use wal_coordination_sys::{self as sys, ListReply};
 
 /// The settings of all measurements: 16 blocks, all in use.
 pub const SETTINGS: Settings = Settings { capacity: 65_536, max_blocks: 16, slots: 64, mode: LINUX_OFD };
 
-/// An index of 16 blocks, and the header.
-pub trait Side {
+/// An index of 16 blocks.
+pub trait Index {
     fn record(&mut self, page: u64, frame: u64);
     fn rollback(&mut self, bound: u64);
     fn find(&mut self, page: u64, min: u64, max: u64, watermark: Option<u64>) -> Option<u64>;
     /// The pairs and the sum of their frames.
     fn list(&mut self, min: u64, max: u64) -> (u64, u64);
+}
+
+/// The header.
+pub trait Header {
     fn commit(&mut self, max_frame: u64, transaction_count: u64);
     fn acquire_and_release(&mut self, owner: u64) -> bool;
     fn bump(&mut self) -> u32;
 }
 
-/// The port, with the memory that it is lent.
-pub struct Port {
-    memory: Memory,
-    local_writer: u64,
-    out_pages: Vec<u64>,
-    out_frames: Vec<u64>,
+/// The memory that the port and the plain C are lent.
+pub struct Lent {
+    pub memory: Memory,
+    pub out_pages: Vec<u64>,
+    pub out_frames: Vec<u64>,
 }
 
-impl Port {
+impl Lent {
     pub fn new() -> Self {
         let room = SETTINGS.capacity as usize;
         Self {
             memory: Memory::fresh(&SETTINGS, SETTINGS.max_blocks, 1),
-            local_writer: 0,
             out_pages: vec![0; room],
             out_frames: vec![0; room],
         }
     }
+}
 
-    #[inline]
-    fn index(&mut self) -> Index<'_> {
-        index(&mut self.memory)
+/// All cells that calls on the index write to.
+impl PartialEq for Lent {
+    fn eq(&self, other: &Self) -> bool {
+        let (a, b) = (&self.memory, &other.memory);
+        a.header == b.header
+            && a.pages == b.pages
+            && a.frames == b.frames
+            && a.hash == b.hash
+            && self.out_pages == other.out_pages
+            && self.out_frames == other.out_frames
+    }
+}
+
+/// The port, with the memory that it is lent.
+pub struct Port {
+    pub lent: Lent,
+    local_writer: u64,
+}
+
+impl Port {
+    pub fn new() -> Self {
+        Self { lent: Lent::new(), local_writer: 0 }
     }
 }
 
 #[inline]
-fn index(memory: &mut Memory) -> Index<'_> {
+fn index(memory: &mut Memory) -> sys::Index<'_> {
     let Settings { capacity, max_blocks, .. } = SETTINGS;
     let Memory { header, pages, frames, hash, .. } = memory;
-    Index { capacity, max_blocks, header, pages, frames, hash }
+    sys::Index { capacity, max_blocks, header, pages, frames, hash }
 }
 
-impl Side for Port {
+impl Index for Port {
     #[inline]
     fn record(&mut self, page: u64, frame: u64) {
-        let reply = sys::record_frame(self.index(), page, frame, 1);
+        let reply = sys::record_frame(index(&mut self.lent.memory), page, frame, 1);
         assert_eq!(reply.refusal, 0);
     }
 
     #[inline]
     fn rollback(&mut self, bound: u64) {
-        let reply = sys::rollback_frames(self.index(), bound);
+        let reply = sys::rollback_frames(index(&mut self.lent.memory), bound);
         assert_eq!(reply.refusal, 0);
     }
 
     #[inline]
     fn find(&mut self, page: u64, min: u64, max: u64, watermark: Option<u64>) -> Option<u64> {
-        let reply = sys::find_frame(self.index().to_read(), page, min, max, watermark);
+        let reply = sys::find_frame(index(&mut self.lent.memory).to_read(), page, min, max, watermark);
         assert_eq!(reply.refusal, 0);
         (reply.found == 1).then_some(reply.frame)
     }
 
     #[inline]
     fn list(&mut self, min: u64, max: u64) -> (u64, u64) {
-        let Self { memory, out_pages, out_frames, .. } = self;
+        let Lent { memory, out_pages, out_frames } = &mut self.lent;
         let ListReply { refusal, count } =
             sys::iter_latest_frames(index(memory).to_read(), min, max, out_pages, out_frames);
         assert_eq!(refusal, 0);
-        (count, self.out_frames[..count as usize].iter().sum())
+        (count, out_frames[..count as usize].iter().sum())
     }
+}
 
+impl Header for Port {
     #[inline]
     fn commit(&mut self, max_frame: u64, transaction_count: u64) {
-        sys::publish_commit(&mut self.memory.header, max_frame, 1, 2, transaction_count);
+        sys::publish_commit(&mut self.lent.memory.header, max_frame, 1, 2, transaction_count);
     }
 
     #[inline]
     fn acquire_and_release(&mut self, owner: u64) -> bool {
-        let header = &mut self.memory.header;
+        let header = &mut self.lent.memory.header;
         let reply = sys::try_acquire_writer(header, self.local_writer, owner, 1);
         self.local_writer = reply.local_owner;
         let got = reply.answer == 1;
@@ -97,7 +121,7 @@ impl Side for Port {
 
     #[inline]
     fn bump(&mut self) -> u32 {
-        sys::bump_checkpoint_seq(&mut self.memory.header)
+        sys::bump_checkpoint_seq(&mut self.lent.memory.header)
     }
 }
 
@@ -111,7 +135,7 @@ macro_rules! rust_side {
             }
         }
 
-        impl Side for $name {
+        impl Index for $name {
             #[inline]
             fn record(&mut self, page: u64, frame: u64) {
                 self.0.record_frame(page, frame);
@@ -132,7 +156,9 @@ macro_rules! rust_side {
                 let pairs = self.0.iter_latest_frames(min, max);
                 (pairs.len() as u64, pairs.iter().map(|(_, frame)| frame).sum())
             }
+        }
 
+        impl Header for $name {
             #[inline]
             fn commit(&mut self, max_frame: u64, transaction_count: u64) {
                 self.0.publish_commit(max_frame, 1, 2, transaction_count);

@@ -22,6 +22,9 @@ impl Direct {
         let process = Process::open(file.clone(), &format!("direct-{opened}"), settings);
         process.set_index_settings(settings.capacity, settings.max_blocks);
         process.set_header(&Header::fresh(settings.max_blocks));
+        // The Rust opens with a multiple of 64 slots; the arrays of fewer have other places.
+        process.set_slot_count(settings.slots);
+        process.set_slots(&Slots::fresh(settings.slots as usize));
         Self(process, file)
     }
 
