@@ -63,13 +63,9 @@ pub fn svg(note: &str, rows: &[Vec<Panel>]) -> String {
          <rect class=\"page\" width=\"{WIDTH}\" height=\"{height}\"/>\n"
     );
     out += &text(LEFT, 30.0, "head", "start", "How the cost of a call grows");
-    out += &text(
-        LEFT,
-        49.0,
-        "",
-        "start",
-        &format!("Time of one call (record: of one entry); {note}. Both axes are logarithmic."),
-    );
+    let note =
+        format!("Time of one call (a record: the mean over the whole index); {note}. Both axes are logarithmic.");
+    out += &text(LEFT, 49.0, "", "start", &note);
     out += &legend();
     for (row, panels) in rows.iter().enumerate() {
         let scale = Decades::of(panels.iter().flat_map(|panel| &panel.points));

@@ -18,6 +18,7 @@ const SLOTS: [u32; 5] = [1, 4, 16, 64, 256];
 pub fn show(rounds: usize, file: Option<&str>) {
     println!("{}; load before: {}; {rounds} rounds; nanoseconds of processor time, medians", processor(), load());
     println!("x: the factor to the row before. Entries double from row to row, slots grow fourfold.");
+    println!("The time of a record is the mean over all entries of the index.");
     let index = |call: Call| Pages::ALL.map(|pages| shown(index_panel(call, pages, rounds))).into();
     let mut panels: Vec<Vec<Panel>> = Call::ALL.map(index).into();
     panels.push(READERS.map(|(name, live, work)| shown(readers_panel(name, live, work, rounds))).into());
@@ -58,11 +59,18 @@ impl Pages {
         }
     }
 
-    /// How many lookups are timed together: those of hot pages take long.
+    /// How many lookups are timed together, and how many rollbacks: those of hot pages take long.
     fn lookups(self) -> usize {
         match self {
             Self::Distinct => 5000,
             Self::Hot(_) => 200,
+        }
+    }
+
+    fn rollbacks(self) -> u64 {
+        match self {
+            Self::Distinct => 16,
+            Self::Hot(_) => 4,
         }
     }
 }
@@ -97,7 +105,7 @@ impl Call {
                 measure::index(name, rounds, &Find { entries, wanted, max: u64::MAX, watermark: None })
             }
             Self::List => measure::index(name, rounds, &List { entries, min: 1, times: (ALL / count).min(32) }),
-            Self::Rollback => measure::index(name, rounds, &Rollbacks::by_one(entries, 4)),
+            Self::Rollback => measure::index(name, rounds, &Rollbacks::by_one(entries, pages.rollbacks())),
         }
     }
 }
@@ -113,15 +121,25 @@ const READERS: [ReaderCall; 3] = [
 
 fn index_panel(call: Call, pages: Pages, rounds: usize) -> Panel {
     let title = format!("{}, {}", call.words(), pages.words());
-    let point = |count| point(count, call.measured(&title, rounds, pages, count));
-    let points = ENTRIES.map(point).into();
+    let points = points(&ENTRIES, rounds, |count, rounds| call.measured(&title, rounds, pages, count));
     Panel { title, unit: "entries", named: vec![512, 4096, ALL], points }
 }
 
 fn readers_panel(name: &str, live: fn(u32) -> usize, work: ReaderWork, rounds: usize) -> Panel {
-    let point = |n: u32| point(n.into(), measure::readers(name, rounds, &Slots::new(n, live(n)), work));
-    let points = SLOTS.map(point).into();
+    let measured = |n, rounds| measure::readers(name, rounds, &Slots::new(n, live(n)), work);
+    let points = points(&SLOTS, rounds, measured);
     Panel { title: name.into(), unit: "slots", named: SLOTS.map(u64::from).into(), points }
+}
+
+/// Measures all sizes, in three passes with a third of the rounds each: rows are held against each other, and what slows
+/// the machine for a while so slows some rounds of several rows, and not all rounds of one.
+fn points<T: Copy + Into<u64>>(sizes: &[T], rounds: usize, measured: impl Fn(T, usize) -> Measured) -> Vec<Point> {
+    let pass = || sizes.iter().map(|size| measured(*size, rounds.div_ceil(3)));
+    let mut rows: Vec<Measured> = pass().collect();
+    for _ in 1..3 {
+        rows.iter_mut().zip(pass()).for_each(|(row, more)| row.add(more));
+    }
+    sizes.iter().zip(rows).map(|(size, row)| point((*size).into(), row)).collect()
 }
 
 fn point(size: u64, measured: Measured) -> Point {

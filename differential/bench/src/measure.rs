@@ -36,6 +36,17 @@ pub struct Measured {
     pub plain: Option<Times>,
 }
 
+impl Measured {
+    /// Takes further rounds of the same line in.
+    pub fn add(&mut self, more: Self) {
+        self.port.0.extend(more.port.0);
+        self.rust.0.extend(more.rust.0);
+        if let (Some(plain), Some(more)) = (&mut self.plain, more.plain) {
+            plain.0.extend(more.0);
+        }
+    }
+}
+
 /// A side's turn: the line, once.
 type Turn<'a> = &'a mut dyn FnMut(&mut Times) -> u64;
 
