@@ -14,8 +14,12 @@ const ENTRIES: [u64; 8] = [512, 1024, 2048, 4096, 8192, 16_384, 32_768, ALL];
 /// Reader slots, each row four times the one before.
 const SLOTS: [u32; 5] = [1, 4, 16, 64, 256];
 
+/// Passes over all sizes of a panel, among which the rounds are divided.
+const PASSES: usize = 3;
+
 /// Prints the table, and writes the picture to the file.
 pub fn show(rounds: usize, file: Option<&str>) {
+    let rounds = rounds.next_multiple_of(PASSES);
     println!("{}; load before: {}; {rounds} rounds; nanoseconds of processor time, medians", processor(), load());
     println!("x: the factor to the row before. Entries double from row to row, slots grow fourfold.");
     println!("The time of a record is the mean over all entries of the index.");
@@ -131,12 +135,12 @@ fn readers_panel(name: &str, live: fn(u32) -> usize, work: ReaderWork, rounds: u
     Panel { title: name.into(), unit: "slots", named: SLOTS.map(u64::from).into(), points }
 }
 
-/// Measures all sizes, in three passes with a third of the rounds each: rows are held against each other, and what slows
-/// the machine for a while so slows some rounds of several rows, and not all rounds of one.
+/// Measures all sizes, pass by pass: rows are held against each other, and what slows the machine for a while so slows
+/// some rounds of several rows, and not all rounds of one.
 fn points<T: Copy + Into<u64>>(sizes: &[T], rounds: usize, measured: impl Fn(T, usize) -> Measured) -> Vec<Point> {
-    let pass = || sizes.iter().map(|size| measured(*size, rounds.div_ceil(3)));
+    let pass = || sizes.iter().map(|size| measured(*size, rounds / PASSES));
     let mut rows: Vec<Measured> = pass().collect();
-    for _ in 1..3 {
+    for _ in 1..PASSES {
         rows.iter_mut().zip(pass()).for_each(|(row, more)| row.add(more));
     }
     sizes.iter().zip(rows).map(|(size, row)| point((*size).into(), row)).collect()
