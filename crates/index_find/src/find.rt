@@ -61,7 +61,12 @@ fn probe_block(pages: &[u64], hash: &[u16], k: usize, page_id: u64, visible_slot
     let first = BLOCK_ENTRIES * k;
     let last = first + BLOCK_ENTRIES;
     let visible_entries = entries_of_block(visible_slots, first);
-    index_hash::find_frame_in_block(&hash[a..e], &pages[first..last], page_id, visible_entries)
+    index_search::probe::find_frame_in_block(
+        &hash[a..e],
+        &pages[first..last],
+        page_id,
+        visible_entries,
+    )
 }
 
 // How many of the visible entries are in the block that starts at entry first.

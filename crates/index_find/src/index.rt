@@ -87,7 +87,7 @@ pub fn cell_in_block(hash: &[u16], k: usize, page_id: u64) -> Cell
 {
     let a = BLOCK_CELLS * k;
     let e = a + BLOCK_CELLS;
-    index_hash::empty_cell(&hash[a..e], page_id)
+    index_search::empty::empty_cell(&hash[a..e], page_id)
 }
 
 // That cell names the entry at a place of block k.
@@ -109,5 +109,9 @@ pub fn rebuild_block(hash: &mut [u16], pages: &[u64], k: usize, entries: usize)
     let e = a + BLOCK_CELLS;
     let first = BLOCK_ENTRIES * k;
     let last = first + BLOCK_ENTRIES;
-    index_hash::rebuild_frame_index_block_hash(&mut hash[a..e], &pages[first..last], entries);
+    index_rebuild::rebuild::rebuild_frame_index_block_hash(
+        &mut hash[a..e],
+        &pages[first..last],
+        entries,
+    );
 }

@@ -1,5 +1,5 @@
 -- A block built by inserting the entries in order. Assumes nothing.
-use mathlib.Core.Path.{_≡_, refl, ap₂}
+use mathlib.Core.Path.{_≡_, refl, sym, ap, ap₂, _∙_}
 use mathlib.Core.List.{List}
 use Prim.Native.Nat.{ℕ, zero, suc, _+_, _<_, _≤_}
 use native.Mathlib.Numerals.{add-one}
@@ -19,6 +19,10 @@ built-none pages = refl
 pub built-next : (pages : List ℕ) (n : ℕ) → built pages (n + 1) ≡ inserted (built pages n) n (getD pages n 0)
 unfolding built
 built-next pages n = rw add-one
+
+-- so it is for a table that equals the one built
+pub built-more : (pages h : List ℕ) (n : ℕ) → h ≡ built pages n → inserted h n (getD pages n 0) ≡ built pages (n + 1)
+built-more pages h n e = ap (λ (l : List ℕ). inserted l n (getD pages n 0)) e ∙ sym (built-next pages n)
 
 -- only the first n pages matter
 pub built-agree : (pages pages′ : List ℕ) (n : ℕ) → ((i : ℕ) → i < n → getD pages i 0 ≡ getD pages′ i 0) → built pages n ≡ built pages′ n

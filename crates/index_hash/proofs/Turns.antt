@@ -1,8 +1,10 @@
 -- One turn of the search for an empty cell and of the probe. Assumes nothing.
 use mathlib.Core.Path.{_≡_, ap}
+use mathlib.Core.Bool.{cond}
 use mathlib.Core.List.{List}
 use Prim.Native.Nat.{ℕ, suc, _-_, _<_, _≤_}
 use native.Mathlib.Omega.{arith}
+use lib.Dec.{eqb}
 use lib.ListN.{getD}
 use borrow.Author.Tests.{eq-eqb, ne-eqb, lt-ltb, le-ltb}
 use Rattle.index_hash.specs.declared.Cell.{Cell}
@@ -10,12 +12,7 @@ use Rattle.index_hash.specs.declared.Cell.the-variants.{Empty, Full}
 use Rattle.index_hash.specs.declared.Probe.{Probe}
 use Rattle.index_hash.specs.declared.Probe.the-variants.{At, Nothing}
 use Rattle.index_hash.specs.Home.{home, next-cell}
-use Rattle.index_hash.specs.Block.{empty-from, empty-cell, probe-from, probe}
-
--- the search starts at the page's home
-pub empty-start : (h : List ℕ) (page cell : ℕ) → cell ≡ home page → empty-from 8192 h cell ≡ empty-cell h page
-unfolding empty-cell
-empty-start h page cell e = ap (empty-from 8192 h) e
+use Rattle.index_hash.specs.Block.{empty-from, probe-from, probe}
 
 -- the search for an empty cell, with n cells left
 module _ (n : ℕ) (h : List ℕ) (cell : ℕ) (whole : Cell) (so-far : empty-from n h cell ≡ whole) where
@@ -58,6 +55,11 @@ module _ (n : ℕ) (h pages : List ℕ) (page visible cell : ℕ) (latest whole 
     probe-at-hidden l v = let more : n ≡ suc (n - 1) = omega arith in simp (more, ne-eqb _ _ used, le-ltb _ _ v) at so-far
 
     module _ (m : ℕ) (more : n ≡ suc m) (seen : getD h cell 0 - 1 < visible) where
+      -- a visible entry: it goes on, with that entry if it is the page's
+      pub probe-at-live : probe-from m h pages page visible (next-cell cell) (cond (eqb (getD pages (getD h cell 0 - 1) 0) page) (At (getD h cell 0 - 1)) latest) ≡ whole
+      unfolding probe-from
+      probe-at-live = simp (more, ne-eqb _ _ used, lt-ltb _ _ seen) at so-far
+
       -- an entry of another page: it goes on
       pub probe-at-other : (getD pages (getD h cell 0 - 1) 0 ≡ page → ⊥) → probe-from m h pages page visible (next-cell cell) latest ≡ whole
       unfolding probe-from

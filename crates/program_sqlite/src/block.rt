@@ -87,6 +87,6 @@ pub fn differences(pages: &[u64], entries: usize, cells: &[u16], hash: &mut [u16
     if pages.len() < entries {
         return BLOCK_CELLS;
     }
-    index_hash::rebuild_frame_index_block_hash(hash, pages, entries);
+    index_rebuild::rebuild::rebuild_frame_index_block_hash(hash, pages, entries);
     count_differences(hash, cells)
 }

@@ -2,19 +2,19 @@
 use Prim.Native.Nat.{_≤_, _<_, _-_}
 use mathlib.Core.Path.{_≡_}
 use mathlib.Core.Logic.{⊎-elim}
 use Rattle.index_hash.specs.Home.{next-cell}
 use Rattle.index_hash.specs.Block.{probe-from, probe}
 use Rattle.index_hash.proofs.Turns.{probe-start, probe-none-left, probe-at-empty, probe-at-hidden, probe-at-other, probe-at-page}
 use native.Mathlib.Omega.{arith}
 use borrow.Author.Needs.{needs}
-use Rattle.index_hash.proofs.find_frame_in_block.Statement.{statement}
-use Rattle.index_hash.proofs.find_frame_in_block.Tie as tie
+use Rattle.index_search.proofs.probe.probe_near.Statement.{statement}
+use Rattle.index_search.proofs.probe.probe_near.Tie as tie
 
 abbrev Inv-loop : tie.InvT-loop
-Inv-loop hash pages page-id visible-entries cell₀ latest₀ counter₀ cell latest counter = (counter ≤ 8192) × ((cell < 8192) × (probe-from (8192 - counter) hash pages page-id visible-entries cell latest ≡ probe hash pages page-id visible-entries))
+Inv-loop hash pages page-id visible-entries cell₀ latest₀ counter₀ cell latest counter = (counter ≤ 16) × ((cell < 8192) × (probe-from (8192 - counter) hash pages page-id visible-entries cell latest ≡ probe hash pages page-id visible-entries))
 
 abbrev μ-loop : tie.MeasureT-loop
-μ-loop hash pages page-id visible-entries cell₀ latest₀ counter₀ cell latest counter = 8192 - counter
+μ-loop hash pages page-id visible-entries cell₀ latest₀ counter₀ cell latest counter = 16 - counter
 
 hash-page-id-requires : tie.Need-hash-page-id-requires Inv-loop μ-loop
 hash-page-id-requires c κs = search needs
@@ -69,10 +69,10 @@ loop-again c = (
 )
 
 returns-3 : tie.Need-returns-3 Inv-loop μ-loop
-returns-3 c = probe-none-left _ _ _ _ _ _ _ _ (c .before .loop .inv .1 .1) (omega arith)
+returns-3 c = tt
 
-pub find-frame-in-block-spec : {M : Type 1} → statement M
-find-frame-in-block-spec =
+pub probe-near-spec : {M : Type 1} → statement M
+probe-near-spec =
     tie.close
     (tie.spec
     Inv-loop

@@ -1,25 +1,22 @@
 -- The loop's invariant: from this cell on the search answers what the whole search answers.
-use Prim.Native.Nat.{_≤_, _<_, _-_}
-use mathlib.Core.Path.{_≡_}
+use Prim.Native.Nat.{ℕ, _≤_, _<_, _-_}
+use mathlib.Core.Path.{_≡_, ap}
 use Rattle.index_hash.specs.Home.{next-cell}
-use Rattle.index_hash.specs.Block.{empty-from, empty-cell}
-use Rattle.index_hash.proofs.Turns.{empty-start, none-left, at-empty, at-used}
+use Rattle.index_hash.specs.Block.{empty-from}
+use Rattle.index_hash.proofs.Turns.{none-left, at-empty, at-used}
 use native.Mathlib.Omega.{arith}
 use borrow.Author.Needs.{needs}
-use Rattle.index_hash.proofs.empty_cell.Statement.{statement}
-use Rattle.index_hash.proofs.empty_cell.Tie as tie
+use Rattle.index_hash.proofs.empty_from.Statement.{statement}
+use Rattle.index_hash.proofs.empty_from.Tie as tie
 
 abbrev Inv-loop : tie.InvT-loop
-Inv-loop hash page-id cell₀ counter₀ cell counter = (counter ≤ 8192) × ((cell < 8192) × (empty-from (8192 - counter) hash cell ≡ empty-cell hash page-id))
+Inv-loop hash from cells cell₀ counter₀ cell counter = (counter ≤ cells) × ((cell < 8192) × (empty-from (cells - counter) hash cell ≡ empty-from cells hash from))
 
 abbrev μ-loop : tie.MeasureT-loop
-μ-loop hash page-id cell₀ counter₀ cell counter = 8192 - counter
-
-hash-page-id-requires : tie.Need-hash-page-id-requires Inv-loop μ-loop
-hash-page-id-requires c κs = search needs
+μ-loop hash from cells cell₀ counter₀ cell counter = cells - counter
 
 loop-holds : tie.Need-loop-holds Inv-loop μ-loop
-loop-holds c = (omega arith, (omega arith, empty-start _ _ _ (c .hash-page-id .ensures .0)))
+loop-holds c = (omega arith, (omega arith, ap (λ (n : ℕ). empty-from n (c .args .hash .now) (c .args .from)) (omega arith)))
 
 mul-if1 : tie.Need-mul-if1 Inv-loop μ-loop
 mul-if1 c = omega arith
@@ -46,13 +43,12 @@ loop-again c = (omega arith, (omega arith, at-used _ _ _ _ (c .before .before .b
 returns-2 : tie.Need-returns-2 Inv-loop μ-loop
 returns-2 c = none-left _ _ _ _ (c .before .loop .inv .1 .1) (omega arith)
 
-pub empty-cell-spec : {M : Type 1} → statement M
-empty-cell-spec =
+pub empty-from-spec : {M : Type 1} → statement M
+empty-from-spec =
     tie.close
     (tie.spec
     Inv-loop
     μ-loop
-    hash-page-id-requires
     loop-holds
     mul-if1
     shared-slice-read-if1

@@ -1,9 +1,9 @@
 -- By the cell that `empty_cell` finds.
 use mathlib.Core.Path.{sym, _∙_}
 use Rattle.index_hash.proofs.Empty.{found-below, inserted-at, inserted-full}
 use borrow.Author.Needs.{needs}
-use Rattle.index_hash.proofs.insert_frame_index_block_hash.Statement.{statement}
-use Rattle.index_hash.proofs.insert_frame_index_block_hash.Tie as tie
+use Rattle.index_rebuild.proofs.rebuild.insert_frame_index_block_hash.Statement.{statement}
+use Rattle.index_rebuild.proofs.rebuild.insert_frame_index_block_hash.Tie as tie
 
 empty-cell-requires : tie.Need-empty-cell-requires
 empty-cell-requires c κs = search needs

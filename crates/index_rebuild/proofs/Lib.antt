@@ -1,0 +1,3 @@
+-- Laws of the map of a block's cells.
+pub mod Ways
+pub mod Dropped

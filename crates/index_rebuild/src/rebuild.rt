@@ -1,0 +1,76 @@
+// rebuild_frame_index_block_hash: a block's hash from its entries.
+use crate::map;
+use index_hash::Cell;
+use index_search::empty;
+ghost use mathlib.Core.Path.{_≡_};
+ghost use Prim.Native.Nat.{_<_, _≤_};
+ghost use lib.ListN.{length};
+ghost use Rattle.wal_types.specs.Settings.{block-entries, block-cells};
+ghost use Rattle.index_hash.specs.Block.{empty-cell, inserted, built};
+
+// An entry is near its home if one of so many cells from there on is empty.
+const NEAR_CELLS: usize = 16;
+
+// So many entries may be far from their homes before the map is made.
+const FAR_ENTRIES: usize = 64;
+
+// The page's entry at this place of the block, named in the first empty cell from the page's home on.
+pub fn insert_frame_index_block_hash(hash: &mut [u16], local_index: usize, page_id: u64) -> Cell
+    requires { ⌜ (length (now hash) ≡ block-cells) × («local_index» < block-entries) ⌝ }
+    ensures { λ r. ⌜ (r ≡ empty-cell (now (hash .entry)) «page_id») × (now (hash .exit) ≡ inserted (now (hash .entry)) «local_index» «page_id») ⌝ }
+{
+    let Cell::Empty(cell) = empty::empty_cell(hash, page_id) else {
+        return Cell::Full;
+    };
+    index_hash::name_entry(hash, cell, local_index);
+    Cell::Empty(cell)
+}
+
+// Inserts the entries from `first` on, as long as each is near its home. Answers the first that is not, or how many are
+// visible.
+fn insert_near(hash: &mut [u16], pages: &[u64], first: usize, visible_entries: usize) -> usize
+    requires { ⌜ ((length (now hash) ≡ block-cells) × ((«visible_entries» ≤ block-entries) × («visible_entries» ≤ length (now pages)))) × ((first ≤ «visible_entries») × (now hash ≡ built (now pages) first)) ⌝ }
+    ensures { λ r. ⌜ (r ≤ «visible_entries») × (now (hash .exit) ≡ built (now (pages .entry)) r) ⌝ }
+{
+    for local_index in first..visible_entries {
+        let home = index_hash::hash_page_id(pages[local_index]);
+        let Cell::Empty(cell) = index_hash::empty_from(hash, home, NEAR_CELLS) else {
+            return local_index;
+        };
+        index_hash::name_entry(hash, cell, local_index);
+    }
+    visible_entries
+}
+
+// Inserts the entries from `first` on by the map.
+fn insert_by_map(hash: &mut [u16], pages: &[u64], first: usize, visible_entries: usize)
+    requires { ⌜ ((length (now hash) ≡ block-cells) × ((«visible_entries» ≤ block-entries) × («visible_entries» ≤ length (now pages)))) × ((first ≤ «visible_entries») × (now hash ≡ built (now pages) first)) ⌝ }
+    ensures { λ _. ⌜ now (hash .exit) ≡ built (now (pages .entry)) «visible_entries» ⌝ }
+{
+    let mut cells = [18446744073709551615u64; map::MAP_WORDS];
+    for local_index in first..visible_entries {
+        let Cell::Empty(cell) = map::empty_by_map(hash, &mut cells, pages[local_index]) else {
+            return;
+        };
+        index_hash::name_entry(hash, cell, local_index);
+        map::drop_cell(&mut cells, cell);
+    }
+}
+
+// The block's hash anew: cleared, then its visible entries inserted in order.
+pub fn rebuild_frame_index_block_hash(hash: &mut [u16], pages: &[u64], visible_entries: usize)
+    requires { ⌜ (length (now hash) ≡ block-cells) × ((«visible_entries» ≤ block-entries) × («visible_entries» ≤ length (now pages))) ⌝ }
+    ensures { λ _. ⌜ now (hash .exit) ≡ built (now (pages .entry)) «visible_entries» ⌝ }
+{
+    index_hash::clear_frame_index_block_hash(hash);
+    let mut next = 0usize;
+    for _ in 0..FAR_ENTRIES {
+        next = insert_near(hash, pages, next, visible_entries);
+        if next == visible_entries {
+            return;
+        }
+        insert_frame_index_block_hash(hash, next, pages[next]);
+        next += 1;
+    }
+    insert_by_map(hash, pages, next, visible_entries);
+}

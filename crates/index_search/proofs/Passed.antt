@@ -1,0 +1,196 @@
+-- What the searches answer by the run of cells that they pass over. Assumes nothing.
+use mathlib.Core.Path.{_≡_, refl, sym, ap, ap₂, _∙_}
+use mathlib.Core.Bool.{Bool, true, false, cond}
+use mathlib.Core.List.{List}
+use Prim.Native.Nat.{ℕ, zero, suc, _+_, _-_, _%_, _<_, _≤_}
+use native.Mathlib.Decide.{decLt}
+use native.Mathlib.Omega.{arith}
+use lib.Dec.{eqb, ltb}
+use lib.ListN.{getD}
+use borrow.Author.Tests.{eqb-true, eqb-false, ltb-true, ltb-false, eq-eqb, ne-eqb}
+use Rattle.index_hash.specs.declared.Cell.{Cell}
+use Rattle.index_hash.specs.declared.Cell.the-variants.{Empty, Full}
+use Rattle.index_hash.specs.declared.Probe.{Probe}
+use Rattle.index_hash.specs.declared.Probe.the-variants.{At, Nothing}
+use Rattle.index_hash.specs.Home.{home, next-cell}
+use Rattle.index_hash.specs.Block.{empty-from, empty-cell, probe-from, probe}
+use Rattle.index_hash.proofs.Empty.{by-test}
+use Rattle.index_hash.proofs.Turns.{none-left, at-used, at-empty, probe-at-live}
+use Rattle.index_search.proofs.Runs.{one-at-least}
+use Rattle.index_search.specs.InnerRun.{All, Live, Used, page-named, Other, met-in}
+
+same-test : (t : Bool) (a x y : Cell) (c : ℕ) → (x ≡ Empty c → y ≡ Empty c) → cond t a x ≡ Empty c → cond t a y ≡ Empty c
+same-test true a x y c f e = e
+same-test false a x y c f e = f e
+
+module _ (h : List ℕ) where
+  -- behind used cells the search for an empty one goes on
+  pub pass-used : (from n m : ℕ) → from + n ≤ 8192 → n ≤ m → All (Used h) from (from + n) → empty-from (m - n) h ((from + n) % 8192) ≡ empty-from m h (from % 8192)
+  unfolding next-cell
+  pass-used from zero m b l used = ap₂ (λ (k c : ℕ). empty-from k h c) (omega arith) (omega arith)
+  pass-used from (suc n) m b l used =
+      let ih = pass-used from n m (omega arith) (omega arith) (λ c x y. used c x (omega arith)) in
+      let here : (from + n) % 8192 ≡ from + n = omega arith in
+      let on = at-used (m - n) h ((from + n) % 8192) (empty-from m h (from % 8192)) ih (m - suc n) (omega arith) (rw here (used (from + n) (omega arith) (omega arith))) in
+      ap (λ (c : ℕ). empty-from (m - suc n) h c) (omega arith) ∙ on
+
+  module _ (home : ℕ) (b : home < 8192) where
+    -- the first empty cell, the used ones before it straight from the home on
+    pub found-on : (cell : ℕ) → home ≤ cell → cell < 8192 → All (Used h) home cell → getD h cell 0 ≡ 0 → Empty cell ≡ empty-from 8192 h home
+    found-on cell l u used z =
+        let e : home + (cell - home) ≡ cell = omega arith in
+        let at : (home + (cell - home)) % 8192 ≡ cell = omega arith in
+        let start : home % 8192 ≡ home = omega arith in
+        let s = pass-used home (cell - home) 8192 (omega arith) (omega arith) (rw e used) in
+        at-empty (8192 - (cell - home)) h cell (empty-from 8192 h home) (rw (at, start) at s) (omega arith) z
+
+    -- the search goes on at the block's first cell
+    past-end : All (Used h) home 8192 → empty-from home h 0 ≡ empty-from 8192 h home
+    past-end used =
+        let e : home + (8192 - home) ≡ 8192 = omega arith in
+        let start : home % 8192 ≡ home = omega arith in
+        let n : 8192 - (8192 - home) ≡ home = omega arith in
+        let at : (home + (8192 - home)) % 8192 ≡ 0 = omega arith in
+        let s = pass-used home (8192 - home) 8192 (omega arith) (omega arith) (rw e used) in
+        rw (n, at, start) at s
+
+    -- the first empty cell, the used ones before it up to the block's end and from its first cell on
+    pub found-round : (cell : ℕ) → cell < home → All (Used h) home 8192 → All (Used h) 0 cell → getD h cell 0 ≡ 0 → Empty cell ≡ empty-from 8192 h home
+    found-round cell u used before z =
+        let e : 0 + cell ≡ cell = omega arith in
+        let at : (0 + cell) % 8192 ≡ cell = omega arith in
+        let s = pass-used 0 cell home (omega arith) (omega arith) (rw e before) in
+        at-empty (home - cell) h cell (empty-from 8192 h home) (rw at at s ∙ past-end used) (omega arith) z
+
+    -- every cell is used
+    pub found-none : All (Used h) home 8192 → All (Used h) 0 home → Full ≡ empty-from 8192 h home
+    found-none used before =
+        let e : 0 + home ≡ home = omega arith in
+        let n : home - home ≡ 0 = omega arith in
+        let s = pass-used 0 home home (omega arith) (omega arith) (rw e before) in
+        none-left (home - home) h ((0 + home) % 8192) (empty-from 8192 h home) (s ∙ past-end used) n
+
+  -- a cell found within fewer cells is the one found within more
+  pub found-sooner : (m n : ℕ) (cell c : ℕ) → m ≤ n → empty-from m h cell ≡ Empty c → empty-from n h cell ≡ Empty c
+  unfolding empty-from
+  found-sooner zero n cell c l e = let z : _≡_ {A = ℕ} 0 1 = cc in absurd (omega arith)
+  found-sooner (suc m) zero cell c l e = absurd (omega arith)
+  found-sooner (suc m) (suc n) cell c l e = same-test (eqb (getD h cell 0) 0) (Empty cell) _ _ c (found-sooner m n (next-cell cell) c (omega arith)) e
+
+  -- so it is the page's cell
+  pub found-near : (m : ℕ) (from page c : ℕ) → m ≤ 8192 → from ≡ home page → empty-from m h from ≡ Empty c → empty-cell h page ≡ Empty c
+  unfolding empty-cell
+  found-near m from page c l e f = found-sooner m 8192 (home page) c l (rw e at f)
+
+module _ (h pages : List ℕ) (page visible : ℕ) where
+  -- behind live cells the probe goes on, with the last entry of the page that they name
+  pub pass-live : (from n m : ℕ) (latest : Probe) → from + n ≤ 8192 → n ≤ m → All (Live h visible) from (from + n) → probe-from (m - n) h pages page visible ((from + n) % 8192) (met-in h pages page from n latest) ≡ probe-from m h pages page visible (from % 8192) latest
+  unfolding next-cell met-in
+  pass-live from zero m latest b l live = ap₂ (λ (k c : ℕ). probe-from k h pages page visible c latest) (omega arith) (omega arith)
+  pass-live from (suc n) m latest b l live =
+      let ih = pass-live from n m latest (omega arith) (omega arith) (λ c x y. live c x (omega arith)) in
+      let here : (from + n) % 8192 ≡ from + n = omega arith in
+      let seen = live (from + n) (omega arith) (omega arith) in
+      let s = rw here at ih in
+      let on = probe-at-live (m - n) h pages page visible (from + n) (met-in h pages page from n latest) (probe-from m h pages page visible (from % 8192) latest) s (λ z. absurd (omega (arith, seen .0))) (m - suc n) (omega arith) (omega (arith, seen .0, seen .1)) in
+      ap (λ (c : ℕ). probe-from (m - suc n) h pages page visible c (met-in h pages page from (suc n) latest)) (omega arith) ∙ on
+
+  -- with no cell left it is over
+  probe-over : (m cell : ℕ) (latest : Probe) → m ≡ 0 → probe-from m h pages page visible cell latest ≡ latest
+  unfolding probe-from
+  probe-over m cell latest e = rw e
+
+  -- a cell that is not live ends it
+  pub probe-stops : (m cell : ℕ) (latest : Probe) → (Live h visible cell → ⊥) → probe-from m h pages page visible cell latest ≡ latest
+  unfolding probe-from
+  probe-stops zero cell latest dead = refl
+  probe-stops (suc m) cell latest dead =
+      by-test (λ (x : Probe). x ≡ latest) (eqb (getD h cell 0) 0) (λ t. refl)
+      (λ t. by-test (λ (x : Probe). x ≡ latest) (ltb (getD h cell 0 - 1) visible)
+      (λ s. let z = one-at-least (getD h cell 0) (eqb-false _ _ t) in let q : getD h cell 0 - 1 < visible = ltb-true _ _ s in absurd (dead (z, omega arith)))
+      (λ s. refl))
+
+  -- the whole probe, by a run that ends before the block does
+  pub probe-straight : (from end : ℕ) → from ≡ home page → from ≤ end → end < 8192 → All (Live h visible) from end → (Live h visible end → ⊥) → met-in h pages page from (end - from) Nothing ≡ probe h pages page visible
+  unfolding probe
+  probe-straight from end e l b live dead =
+      let to : from + (end - from) ≡ end = omega arith in
+      let at : (from + (end - from)) % 8192 ≡ end = omega arith in
+      let start : from % 8192 ≡ home page = omega arith in
+      let s = pass-live from (end - from) 8192 Nothing (omega arith) (omega arith) (rw to live) in
+      sym (probe-stops (8192 - (end - from)) end (met-in h pages page from (end - from) Nothing) dead) ∙ rw (at, start) at s
+
+  -- and by one that goes on at the block's first cell
+  pub probe-round : (from end : ℕ) → from ≡ home page → from < 8192 → All (Live h visible) from 8192 → end ≤ from → All (Live h visible) 0 end → (end < from → Live h visible end → ⊥) → met-in h pages page 0 (end - 0) (met-in h pages page from (8192 - from) Nothing) ≡ probe h pages page visible
+  unfolding probe
+  probe-round from end e b live l more dead = rw none (go (decLt end from) ∙ second ∙ first)
+    where
+      none : end - 0 ≡ end
+      none = omega arith
+
+      met : Probe
+      met = met-in h pages page from (8192 - from) Nothing
+
+      first : probe-from from h pages page visible 0 met ≡ probe-from 8192 h pages page visible (home page) Nothing
+      first =
+          let to : from + (8192 - from) ≡ 8192 = omega arith in
+          let at : (from + (8192 - from)) % 8192 ≡ 0 = omega arith in
+          let left : 8192 - (8192 - from) ≡ from = omega arith in
+          let start : from % 8192 ≡ home page = omega arith in
+          rw (left, at, start) at (pass-live from (8192 - from) 8192 Nothing (omega arith) (omega arith) (rw to live))
+
+      second : probe-from (from - end) h pages page visible end (met-in h pages page 0 end met) ≡ probe-from from h pages page visible 0 met
+      second =
+          let to : 0 + end ≡ end = omega arith in
+          let at : (0 + end) % 8192 ≡ end = omega arith in
+          let start : 0 % 8192 ≡ 0 = omega arith in
+          rw (at, start) at (pass-live 0 end from met (omega arith) (omega arith) (rw to more))
+
+      go : Dec (end < from) → met-in h pages page 0 end met ≡ probe-from (from - end) h pages page visible end (met-in h pages page 0 end met)
+      go (yes s) = sym (probe-stops (from - end) end (met-in h pages page 0 end met) (dead s))
+      go (no s) = sym (probe-over (from - end) end (met-in h pages page 0 end met) (omega arith))
+
+module _ (h pages : List ℕ) (page : ℕ) where
+  -- cells that name other pages' entries tell nothing
+  pub met-skip : (from n k : ℕ) (before : Probe) → All (Other h pages page) (from + n) (from + n + k) → met-in h pages page from (n + k) before ≡ met-in h pages page from n before
+  unfolding met-in
+  met-skip from n zero before others = let e : n + zero ≡ n = omega arith in ap (λ (x : ℕ). met-in h pages page from x before) e
+  met-skip from n (suc k) before others =
+      let e : n + suc k ≡ suc (n + k) = omega arith in
+      let at : from + n + k ≡ from + (n + k) = omega arith in
+      let no = others (from + n + k) (omega arith) (omega arith) in
+      rw e (rw (ne-eqb _ _ (rw at at no)) (met-skip from n k before (λ c x y. others c x (omega arith))))
+
+  module _ (from : ℕ) (before : Probe) where
+    -- so a run that ends before them tells the same
+    pub met-passed : (rest end : ℕ) → from ≤ rest → rest ≤ end → All (Other h pages page) rest end → met-in h pages page from (rest - from) before ≡ met-in h pages page from (end - from) before
+    met-passed rest end l u others =
+        let at : from + (rest - from) ≡ rest = omega arith in
+        let to : rest + (end - rest) ≡ end = omega arith in
+        let n : rest - from + (end - rest) ≡ end - from = omega arith in
+        sym (rw n at (met-skip from (rest - from) (end - rest) before (rw (at, to) others)))
+
+    -- the page's entry that the last cell of a run names
+    pub met-last : (rest : ℕ) → from < rest → page-named h pages (rest - 1) ≡ page → At (getD h (rest - 1) 0 - 1) ≡ met-in h pages page from (rest - from) before
+    unfolding met-in
+    met-last rest l e =
+        let n : rest - from ≡ suc (rest - 1 - from) = omega arith in
+        let at : from + (rest - 1 - from) ≡ rest - 1 = omega arith in
+        rw n (rw (at, eq-eqb _ _ e))
+
+    -- no cells tell what was met before
+    pub met-nothing : (n : ℕ) → n ≡ 0 → before ≡ met-in h pages page from n before
+    unfolding met-in
+    met-nothing n e = rw e
+
+-- live cells are used
+pub live-used : (h : List ℕ) (visible from to : ℕ) → All (Live h visible) from to → All (Used h) from to
+live-used h visible from to live c x y z = let l = live c x y in absurd (omega (arith, l .0))
+
+-- a cell is empty if it names no entry that a cell can name
+pub dead-empty : (h : List ℕ) (c : ℕ) → getD h c 0 ≤ 65535 → (Live h 65535 c → ⊥) → getD h c 0 ≡ 0
+dead-empty h c b dead = go (getD h c 0) b dead
+  where
+    go : (x : ℕ) → x ≤ 65535 → ((1 ≤ x) × (x ≤ 65535) → ⊥) → x ≡ 0
+    go zero b dead = refl
+    go (suc x) b dead = absurd (dead (omega arith, b))

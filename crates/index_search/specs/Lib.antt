@@ -1,0 +1,2 @@
+-- What a search that takes many cells at a look has seen.
+pub mod InnerRun

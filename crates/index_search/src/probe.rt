@@ -1,0 +1,147 @@
+// The probe for a page's latest entry.
+use crate::run;
+use index_hash::BLOCK_CELLS;
+use index_hash::Probe;
+ghost use mathlib.Core.Path.{_≡_};
+ghost use mathlib.Core.Bool.{true, not};
+ghost use Prim.Native.Nat.{_+_, _-_, _<_, _≤_};
+ghost use lib.Dec.{eqb};
+ghost use lib.ListN.{length};
+ghost use Rattle.wal_types.specs.Settings.{block-entries, block-cells};
+ghost use Rattle.index_hash.specs.Block.{probe};
+ghost use Rattle.index_search.specs.InnerRun.{All, Live, page-named, Other, met-in, Answers};
+
+// How many cells are looked at one by one before many are at once.
+const NEAR_CELLS: usize = 16;
+
+// How many cells one look takes.
+const LOOK: usize = 8;
+
+// What the near cells tell: the answer of the probe that ends among them, or that there are further ones.
+pub enum Near {
+    Ended(Probe),
+    Further,
+}
+
+// The probe of the near cells, one by one. An entry that is not visible ends the probe.
+// (So with none visible any cell ends it, and the source's early return for that is not needed.)
+fn probe_near(hash: &[u16], pages: &[u64], page_id: u64, visible_entries: usize) -> Near
+    requires { ⌜ (length (now hash) ≡ block-cells) × ((«visible_entries» ≤ block-entries) × («visible_entries» ≤ length (now pages))) ⌝ }
+    ensures { λ r. ⌜ Answers (probe (now (hash .entry)) (now (pages .entry)) «page_id» «visible_entries») r ⌝ }
+{
+    let mut cell = index_hash::hash_page_id(page_id);
+    let mut latest = Probe::Nothing;
+    for _ in 0..NEAR_CELLS {
+        let local_plus_one = hash[cell] as usize;
+        if local_plus_one == 0 {
+            return Near::Ended(latest);
+        }
+        let local_index = local_plus_one - 1;
+        if local_index >= visible_entries {
+            return Near::Ended(latest);
+        }
+        if pages[local_index] == page_id {
+            latest = Probe::At(local_index);
+        }
+        cell = (cell + 1) % BLOCK_CELLS;
+    }
+    Near::Further
+}
+
+// Whether the entry that a cell names is another page's.
+fn names_other(hash: &[u16], pages: &[u64], page_id: u64, cell: usize) -> bool
+    requires { ⌜ (cell < length (now hash)) × Live (now hash) (length (now pages)) cell ⌝ }
+    ensures { λ r. ⌜ r ≡ not (eqb (page-named (now (hash .entry)) (now (pages .entry)) cell) «page_id») ⌝ }
+{
+    let local_index = hash[cell] as usize - 1;
+    pages[local_index] != page_id
+}
+
+// Whether the entries that four cells from this one on name are other pages'.
+fn four_name_others(hash: &[u16], pages: &[u64], page_id: u64, from: usize) -> bool
+    requires { ⌜ (from + 4 ≤ length (now hash)) × All (Live (now hash) (length (now pages))) from (from + 4) ⌝ }
+    ensures { λ r. ⌜ (r ≡ true → All (Other (now (hash .entry)) (now (pages .entry)) «page_id») from (from + 4)) ⌝ }
+{
+    names_other(hash, pages, page_id, from)
+        & names_other(hash, pages, page_id, from + 1)
+        & names_other(hash, pages, page_id, from + 2)
+        & names_other(hash, pages, page_id, from + 3)
+}
+
+// Whether those that eight name are.
+fn eight_name_others(hash: &[u16], pages: &[u64], page_id: u64, from: usize) -> bool
+    requires { ⌜ (from + 8 ≤ length (now hash)) × All (Live (now hash) (length (now pages))) from (from + 8) ⌝ }
+    ensures { λ r. ⌜ (r ≡ true → All (Other (now (hash .entry)) (now (pages .entry)) «page_id») from (from + 8)) ⌝ }
+{
+    four_name_others(hash, pages, page_id, from) & four_name_others(hash, pages, page_id, from + 4)
+}
+
+// Passes backward over cells of a run that name other pages' entries, as long as a look sees nothing else.
+fn pass_others(hash: &[u16], pages: &[u64], page_id: u64, from: usize, end: usize) -> usize
+    requires { ⌜ ((from ≤ end) × (end ≤ length (now hash))) × All (Live (now hash) (length (now pages))) from end ⌝ }
+    ensures { λ r. ⌜ ((from ≤ r) × (r ≤ end)) × All (Other (now (hash .entry)) (now (pages .entry)) «page_id») r end ⌝ }
+{
+    let mut rest = end;
+    while LOOK <= rest - from {
+        if !eight_name_others(hash, pages, page_id, rest - LOOK) {
+            return rest;
+        }
+        rest -= LOOK;
+    }
+    rest
+}
+
+// The last entry of the page that a run of live cells names, or what was met before. Backward: on few pages the last cells of
+// a run are those of the page that is looked for.
+fn latest_in_run(
+    hash: &[u16],
+    pages: &[u64],
+    page_id: u64,
+    from: usize,
+    end: usize,
+    before: Probe,
+) -> Probe
+    requires { ⌜ ((from ≤ end) × (end ≤ length (now hash))) × All (Live (now hash) (length (now pages))) from end ⌝ }
+    ensures { λ r. ⌜ r ≡ met-in (now (hash .entry)) (now (pages .entry)) «page_id» from (end - from) before ⌝ }
+{
+    let mut rest = pass_others(hash, pages, page_id, from, end);
+    while from < rest {
+        rest -= 1;
+        if !names_other(hash, pages, page_id, rest) {
+            return Probe::At(hash[rest] as usize - 1);
+        }
+    }
+    before
+}
+
+// The whole probe, many cells at a look: the run of live cells from the home on, which may go on at the block's first cell.
+fn probe_run(hash: &[u16], pages: &[u64], page_id: u64, visible_entries: usize) -> Probe
+    requires { ⌜ (length (now hash) ≡ block-cells) × ((«visible_entries» ≤ block-entries) × («visible_entries» ≤ length (now pages))) ⌝ }
+    ensures { λ r. ⌜ r ≡ probe (now (hash .entry)) (now (pages .entry)) «page_id» «visible_entries» ⌝ }
+{
+    let home = index_hash::hash_page_id(page_id);
+    let visible = visible_entries as u16;
+    let end = run::live_until(hash, home, BLOCK_CELLS, visible);
+    let met = latest_in_run(hash, pages, page_id, home, end, Probe::Nothing);
+    if end < BLOCK_CELLS {
+        return met;
+    }
+    let wrapped = run::live_until(hash, 0, home, visible);
+    latest_in_run(hash, pages, page_id, 0, wrapped, met)
+}
+
+// The place of the page's latest entry among the visible ones.
+pub fn find_frame_in_block(
+    hash: &[u16],
+    pages: &[u64],
+    page_id: u64,
+    visible_entries: usize,
+) -> Probe
+    requires { ⌜ (length (now hash) ≡ block-cells) × ((«visible_entries» ≤ block-entries) × («visible_entries» ≤ length (now pages))) ⌝ }
+    ensures { λ r. ⌜ r ≡ probe (now (hash .entry)) (now (pages .entry)) «page_id» «visible_entries» ⌝ }
+{
+    if let Near::Ended(found) = probe_near(hash, pages, page_id, visible_entries) {
+        return found;
+    }
+    probe_run(hash, pages, page_id, visible_entries)
+}
