@@ -3,6 +3,7 @@
 // no more than two words of the map and one of the last two or both, however many cells are used.
 use index_hash::BLOCK_CELLS;
 use index_hash::Cell;
+use index_search::empty;
 ghost use mathlib.Core.Path.{_≡_};
 ghost use Prim.Native.Nat.{_<_, _≤_};
 ghost use lib.ListN.{length};
@@ -97,12 +98,12 @@ pub fn empty_by_map(hash: &[u16], map: &mut [u64], page_id: u64) -> Cell
     for _ in 0..BLOCK_CELLS {
         let cell = next_cell(map, home);
         if BLOCK_CELLS <= cell {
-            return index_search::empty::empty_cell(hash, page_id);
+            return empty::far_empty_cell(hash, page_id);
         }
         if hash[cell] == 0 {
             return Cell::Empty(cell);
         }
         drop_cell(map, cell);
     }
-    index_search::empty::empty_cell(hash, page_id)
+    empty::far_empty_cell(hash, page_id)
 }

@@ -9,7 +9,7 @@ ghost use Rattle.wal_types.specs.Settings.{block-entries, block-cells};
 ghost use Rattle.index_hash.specs.Block.{empty-cell, inserted, built};
 
 // An entry is near its home if one of so many cells from there on is empty.
-const NEAR_CELLS: usize = 16;
+const NEAR_CELLS: usize = 8;
 
 // So many entries may be far from their homes before the map is made.
 const FAR_ENTRIES: usize = 64;
@@ -19,7 +19,7 @@ pub fn insert_frame_index_block_hash(hash: &mut [u16], local_index: usize, page_
     requires { ⌜ (length (now hash) ≡ block-cells) × («local_index» < block-entries) ⌝ }
     ensures { λ r. ⌜ (r ≡ empty-cell (now (hash .entry)) «page_id») × (now (hash .exit) ≡ inserted (now (hash .entry)) «local_index» «page_id») ⌝ }
 {
-    let Cell::Empty(cell) = empty::empty_cell(hash, page_id) else {
+    let Cell::Empty(cell) = empty::far_empty_cell(hash, page_id) else {
         return Cell::Full;
     };
     index_hash::name_entry(hash, cell, local_index);

@@ -70,6 +70,11 @@ module _ (h : List ℕ) where
         let s = pass-used 0 home home (omega arith) (omega arith) (rw e before) in
         none-left (home - home) h ((0 + home) % 8192) (empty-from 8192 h home) (s ∙ past-end used) n
 
+  -- from a page's home on
+  pub of-page : (from page : ℕ) (x : Cell) → from ≡ home page → x ≡ empty-from 8192 h from → x ≡ empty-cell h page
+  unfolding empty-cell
+  of-page from page x e f = rw e at f
+
   -- a cell found within fewer cells is the one found within more
   pub found-sooner : (m n : ℕ) (cell c : ℕ) → m ≤ n → empty-from m h cell ≡ Empty c → empty-from n h cell ≡ Empty c
   unfolding empty-from
@@ -83,6 +88,15 @@ module _ (h : List ℕ) where
   found-near m from page c l e f = found-sooner m 8192 (home page) c l (rw e at f)
 
 module _ (h pages : List ℕ) (page visible : ℕ) where
+  -- the probe starts at the page's home, with nothing met
+  pub probe-start : (from : ℕ) → from < 8192 → from ≡ home page → probe-from (8192 - (from - from)) h pages page visible (from % 8192) Nothing ≡ probe h pages page visible
+  unfolding probe
+  probe-start from b e = ap₂ (λ (n c : ℕ). probe-from n h pages page visible c Nothing) (omega arith) (omega arith)
+
+  -- a cell of the block is its own remainder
+  pub probe-here : (n cell : ℕ) (latest whole : Probe) → cell < 8192 → probe-from n h pages page visible (cell % 8192) latest ≡ whole → probe-from n h pages page visible cell latest ≡ whole
+  probe-here n cell latest whole b e = let here : cell % 8192 ≡ cell = omega arith in rw here at e
+
   -- behind live cells the probe goes on, with the last entry of the page that they name
   pub pass-live : (from n m : ℕ) (latest : Probe) → from + n ≤ 8192 → n ≤ m → All (Live h visible) from (from + n) → probe-from (m - n) h pages page visible ((from + n) % 8192) (met-in h pages page from n latest) ≡ probe-from m h pages page visible (from % 8192) latest
   unfolding next-cell met-in

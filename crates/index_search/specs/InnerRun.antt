@@ -19,6 +19,10 @@ All P from to = (c : ℕ) → from ≤ c → c < to → P c
 abbrev pub Live : List ℕ → ℕ → ℕ → Type 0
 Live h visible c = (1 ≤ getD h c 0) × (getD h c 0 ≤ visible)
 
+-- a run of live cells that starts at a cell ends at this one: it is not live, or it is where the search was to end
+abbrev pub RunEnd : List ℕ → ℕ → ℕ → ℕ → ℕ → Type 0
+RunEnd h visible from end r = ((from ≤ r) × (r ≤ end)) × (All (Live h visible) from r × (r < end → (getD h r 0 ≤ 65535) × (Live h visible r → ⊥)))
+
 -- the cell is used
 abbrev pub Used : List ℕ → ℕ → Type 0
 Used h c = getD h c 0 ≡ 0 → ⊥

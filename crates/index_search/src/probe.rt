@@ -12,7 +12,7 @@ ghost use Rattle.index_hash.specs.Block.{probe};
 ghost use Rattle.index_search.specs.InnerRun.{All, Live, page-named, Other, met-in, Answers};
 
 // How many cells are looked at one by one before many are at once.
-const NEAR_CELLS: usize = 16;
+const NEAR_CELLS: usize = 24;
 
 // How many cells one look takes.
 const LOOK: usize = 8;
@@ -29,9 +29,10 @@ fn probe_near(hash: &[u16], pages: &[u64], page_id: u64, visible_entries: usize)
     requires { ⌜ (length (now hash) ≡ block-cells) × ((«visible_entries» ≤ block-entries) × («visible_entries» ≤ length (now pages))) ⌝ }
     ensures { λ r. ⌜ Answers (probe (now (hash .entry)) (now (pages .entry)) «page_id» «visible_entries») r ⌝ }
 {
-    let mut cell = index_hash::hash_page_id(page_id);
+    let home = index_hash::hash_page_id(page_id);
+    let end = run::near_end(home, NEAR_CELLS);
     let mut latest = Probe::Nothing;
-    for _ in 0..NEAR_CELLS {
+    for cell in home..end {
         let local_plus_one = hash[cell] as usize;
         if local_plus_one == 0 {
             return Near::Ended(latest);
@@ -43,7 +44,6 @@ fn probe_near(hash: &[u16], pages: &[u64], page_id: u64, visible_entries: usize)
         if pages[local_index] == page_id {
             latest = Probe::At(local_index);
         }
-        cell = (cell + 1) % BLOCK_CELLS;
     }
     Near::Further
 }

@@ -1,10 +1,12 @@
 // Runs of live cells: cells that name one of the first visible entries.
+use index_hash::BLOCK_CELLS;
 ghost use mathlib.Core.Path.{_≡_};
 ghost use mathlib.Core.Bool.{true, not, _&&_};
 ghost use Prim.Native.Nat.{_+_, _<_, _≤_};
 ghost use lib.Dec.{eqb, leb};
-ghost use lib.ListN.{length, getD};
-ghost use Rattle.index_search.specs.InnerRun.{All, Live};
+ghost use lib.ListN.{length};
+ghost use Rattle.wal_types.specs.Settings.{block-cells};
+ghost use Rattle.index_search.specs.InnerRun.{All, Live, RunEnd};
 
 // As many entries as a cell can name: with this, every used cell is live.
 pub const ANY_ENTRY: u16 = 65535;
@@ -57,12 +59,12 @@ fn pass_live(hash: &[u16], from: usize, end: usize, visible: u16) -> usize
     cell
 }
 
-// Where the run of live cells from this one on ends: at the first cell that is not live, or at the given end.
-pub fn live_until(hash: &[u16], from: usize, end: usize, visible: u16) -> usize
+// Where the run of live cells from this one on ends, cell by cell: at the first that is not live, or at the given end.
+pub fn near_live_until(hash: &[u16], from: usize, end: usize, visible: u16) -> usize
     requires { ⌜ (from ≤ end) × (end ≤ length (now hash)) ⌝ }
-    ensures { λ r. ⌜ ((from ≤ r) × (r ≤ end)) × (All (Live (now (hash .entry)) visible) from r × (r < end → (getD (now (hash .entry)) r 0 ≤ 65535) × (Live (now (hash .entry)) visible r → ⊥))) ⌝ }
+    ensures { λ r. ⌜ RunEnd (now (hash .entry)) visible from end r ⌝ }
 {
-    let mut cell = pass_live(hash, from, end, visible);
+    let mut cell = from;
     while cell < end {
         if !is_live(hash[cell], visible) {
             return cell;
@@ -70,4 +72,24 @@ pub fn live_until(hash: &[u16], from: usize, end: usize, visible: u16) -> usize
         cell += 1;
     }
     cell
+}
+
+// The same, many cells at a look.
+pub fn live_until(hash: &[u16], from: usize, end: usize, visible: u16) -> usize
+    requires { ⌜ (from ≤ end) × (end ≤ length (now hash)) ⌝ }
+    ensures { λ r. ⌜ RunEnd (now (hash .entry)) visible from end r ⌝ }
+{
+    let cell = pass_live(hash, from, end, visible);
+    near_live_until(hash, cell, end, visible)
+}
+
+// Where the near cells of a home end: so many from there on, but not past the block's end.
+pub fn near_end(home: usize, cells: usize) -> usize
+    requires { ⌜ (home < block-cells) × (cells ≤ block-cells) ⌝ }
+    ensures { λ r. ⌜ (home ≤ r) × (r ≤ block-cells) ⌝ }
+{
+    if BLOCK_CELLS - home < cells {
+        return BLOCK_CELLS;
+    }
+    home + cells
 }

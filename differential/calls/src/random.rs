@@ -220,7 +220,8 @@ impl<'a> Maker<'a> {
         if self.family == Family::Index {
             match self.dice.below(40) {
                 0 => self.crowding(&mut lines),
-                1..=20 => self.filling(&settings, &mut lines),
+                1..=18 => self.filling(&settings, &mut lines),
+                19..=22 => self.hot_pages(&settings, &mut lines),
                 _ => {}
             }
         }

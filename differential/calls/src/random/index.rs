@@ -28,6 +28,36 @@ impl Maker<'_> {
         self.few_entries(len.into(), settings.max_blocks.into(), lines);
     }
 
+    /// A block of few pages: long runs of used cells, which may go on at the block's first cell. One in three has the
+    /// homes side by side, so that the pages' entries mix.
+    pub(super) fn hot_pages(&mut self, settings: &Settings, lines: &mut Vec<Line>) {
+        let (entries, cells) = (BLOCK_ENTRIES as u64, BLOCK_HASH_CELLS as u64);
+        let most = u64::from(settings.capacity.min(settings.max_blocks * BLOCK_ENTRIES as u32));
+        let first = entries * self.dice.below(most.div_ceil(entries));
+        let count = self.dice.of(&[30, 90, 170, 170, 330, 600, 4096]).min(most - first);
+        let any = self.dice.below(cells);
+        let start = self.dice.of(&[0, 60, 4000, 4090, 8000, 8100, 8190, any]);
+        let apart = self.dice.of(&[1, 17, 383]);
+        let few = self.dice.of(&[1, 1, 2, 5, 30]);
+        let pages: Vec<u64> =
+            (0..few).map(|i| HOME_INVERSE * (start + i * apart) % cells + cells * self.dice.below(3)).collect();
+        let poke = |cell, index, value| Line::Poke { cell, index, value };
+        lines.push(poke(SharedCell::Header(HeaderCell::Blocks), 0, (first + count).div_ceil(entries)));
+        lines.push(poke(SharedCell::Header(HeaderCell::Len), 0, first + count));
+        let mut used = vec![false; BLOCK_HASH_CELLS];
+        for place in 0..count {
+            let page = self.dice.of(&pages);
+            let mut cell = page * 383 % cells;
+            while used[cell as usize] {
+                cell = (cell + 1) % cells;
+            }
+            used[cell as usize] = true;
+            lines.push(poke(SharedCell::Page, first + place, page));
+            lines.push(poke(SharedCell::Frame, first + place, first + place + 1));
+            lines.push(poke(SharedCell::Hash, first / entries * cells + cell, place + 1));
+        }
+    }
+
     /// A first block without an empty hash cell, or with very few: an insertion or a lookup goes all the way round.
     pub(super) fn crowding(&mut self, lines: &mut Vec<Line>) {
         let cells = BLOCK_HASH_CELLS as u64;
@@ -96,13 +126,17 @@ impl Maker<'_> {
         }
     }
 
-    /// A page that the index has, or any.
+    /// A page that the index has, or one with the same home, or any.
     fn likely_page(&mut self, view: &dyn View) -> u64 {
         let len = self.visible_len(view);
         if len == 0 || self.dice.one_in(4) {
             return self.page();
         }
-        view.page(self.entry(len))
+        let page = view.page(self.entry(len));
+        if self.dice.one_in(8) {
+            return page.wrapping_add(BLOCK_HASH_CELLS as u64);
+        }
+        page
     }
 
     pub(super) fn visible_len(&self, view: &dyn View) -> usize {
@@ -148,7 +182,8 @@ impl Maker<'_> {
                     2 => last,
                     _ => last.wrapping_add(self.dice.between(1, 3)),
                 };
-                Call::RecordFrame { page: self.page(), frame, grow: !self.dice.one_in(4) }
+                let page = if self.dice.one_in(3) { self.likely_page(view) } else { self.page() };
+                Call::RecordFrame { page, frame, grow: !self.dice.one_in(4) }
             }
             7 | 8 => Call::RollbackFrames { bound: self.likely_frame(view) },
             9 | 10 if self.visible_len(view) > 0 => {
@@ -218,7 +253,8 @@ impl Maker<'_> {
             4..=6 => {
                 let block = entry / BLOCK_ENTRIES;
                 let home = self.likely_page(view).wrapping_mul(383) as usize;
-                let cell = block * BLOCK_HASH_CELLS + (home + self.dice.index(3)) % BLOCK_HASH_CELLS;
+                let near = self.dice.of(&[3, 3, 40, 400]);
+                let cell = block * BLOCK_HASH_CELLS + (home + self.dice.index(near)) % BLOCK_HASH_CELLS;
                 let place = (entry % BLOCK_ENTRIES) as u64;
                 let value = match self.dice.below(5) {
                     0 => 0,

@@ -12,7 +12,7 @@ use Rattle.index_rebuild.proofs.map.empty_by_map.Lts as lts
 use Rattle.index_hash.proofs.hash_page_id.Reads as hash-page-id-reads
 use Rattle.index_rebuild.proofs.map.drop_cell.Reads as drop-cell-reads
 use Rattle.index_rebuild.proofs.map.next_cell.Reads as next-cell-reads
-use Rattle.index_search.proofs.empty.empty_cell.Reads as empty-cell-reads
+use Rattle.index_search.proofs.empty.far_empty_cell.Reads as far-empty-cell-reads
 
 abbrev Inv-loop : tie.InvT-loop
 Inv-loop hash map₀ page-id home counter₀ map counter = ((counter ≤ 8192) × (home < 8192)) × ((length map ≡ 130) × Tells hash map)
@@ -33,8 +33,8 @@ next-cell-requires : tie.Need-next-cell-requires Inv-loop μ-loop
 next-cell-requires c κs = (omega arith, (omega arith, c .before .before .loop .inv .1 .1 .words))
 
 -- src/map.rt:104:13
-empty-cell-requires : tie.Need-empty-cell-requires Inv-loop μ-loop
-empty-cell-requires c κs = search needs
+far-empty-cell-requires : tie.Need-far-empty-cell-requires Inv-loop μ-loop
+far-empty-cell-requires c κs = search needs
 
 -- src/map.rt:104:13
 same-length : tie.Need-same-length Inv-loop μ-loop
@@ -42,7 +42,7 @@ same-length c = search needs
 
 -- src/map.rt:104:13
 returns : tie.Need-returns Inv-loop μ-loop
-returns c = (c .empty-cell .ensures, c .before .before .before .before .before .loop .inv .1 .1)
+returns c = (c .far-empty-cell .ensures, c .before .before .before .before .before .loop .inv .1 .1)
 
 -- src/map.rt:106:12
 mul-if2 : tie.Need-mul-if2 Inv-loop μ-loop
@@ -77,8 +77,8 @@ loop-again : tie.Need-loop-again Inv-loop μ-loop
 loop-again c = ((omega arith, omega arith), (omega arith, subst (Tells _) (sym (c .before .before .drop-cell .ensures)) (cell-dropped _ _ _ (omega arith) (omega arith) (c .before .before .before .before .if2 .left) (c .before .before .before .before .before .before .before .before .before .before .loop .inv .1 .1))))
 
 -- src/map.rt:111:5
-empty-cell-requires-2 : tie.Need-empty-cell-requires-2 Inv-loop μ-loop
-empty-cell-requires-2 c κs = search needs
+far-empty-cell-requires-2 : tie.Need-far-empty-cell-requires-2 Inv-loop μ-loop
+far-empty-cell-requires-2 c κs = search needs
 
 -- src/map.rt:96:1
 same-length-3 : tie.Need-same-length-3 Inv-loop μ-loop
@@ -86,7 +86,7 @@ same-length-3 c = search needs
 
 -- src/map.rt:96:1
 returns-3 : tie.Need-returns-3 Inv-loop μ-loop
-returns-3 c = (c .empty-cell2 .ensures, c .before .before .loop .inv .1 .1)
+returns-3 c = (c .far-empty-cell2 .ensures, c .before .before .loop .inv .1 .1)
 
 pub empty-by-map-spec : {M : Type 1} → statement M
 empty-by-map-spec =
@@ -97,7 +97,7 @@ empty-by-map-spec =
     hash-page-id-requires
     loop-holds
     next-cell-requires
-    empty-cell-requires
+    far-empty-cell-requires
     same-length
     returns
     mul-if2
@@ -108,6 +108,6 @@ empty-by-map-spec =
     add-counter
     loop-less
     loop-again
-    empty-cell-requires-2
+    far-empty-cell-requires-2
     same-length-3
     returns-3)

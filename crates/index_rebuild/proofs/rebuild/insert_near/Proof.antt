@@ -59,7 +59,7 @@ returns c = (omega arith, c .before .before .before .before .before .before .bef
 
 -- src/rebuild.rt:40:9
 name-entry-requires : tie.Need-name-entry-requires Inv-loop μ-loop
-name-entry-requires c κs = let b = found-below _ _ _ (found-near _ 16 _ _ _ (omega arith) (c .before .before .before .before .before .before .hash-page-id .ensures .0) (sym (c .before .before .before .before .empty-from .ensures) ∙ c .before .before .cell .given .1)) in search needs
+name-entry-requires c κs = let b = found-below _ _ _ (found-near _ 8 _ _ _ (omega arith) (c .before .before .before .before .before .before .hash-page-id .ensures .0) (sym (c .before .before .before .before .empty-from .ensures) ∙ c .before .before .cell .given .1)) in search needs
 
 -- src/rebuild.rt:35:9
 add-local-index : tie.Need-add-local-index Inv-loop μ-loop
@@ -72,7 +72,7 @@ loop-less c = omega arith
 -- src/rebuild.rt:35:5
 loop-again : tie.Need-loop-again Inv-loop μ-loop
 loop-again c =
-    let found = found-near _ 16 _ _ _ (omega arith) (c .before .before .before .before .before .before .before .before .before .hash-page-id .ensures .0) (sym (c .before .before .before .before .before .before .before .empty-from .ensures) ∙ c .before .before .before .before .before .cell .given .1) in
+    let found = found-near _ 8 _ _ _ (omega arith) (c .before .before .before .before .before .before .before .before .before .hash-page-id .ensures .0) (sym (c .before .before .before .before .before .before .before .empty-from .ensures) ∙ c .before .before .before .before .before .cell .given .1) in
     (omega arith, (omega arith, c .before .before .name-entry .ensures ∙ sym (inserted-at _ _ _ _ found) ∙ built-more _ _ _ (c .before .before .before .before .before .before .before .before .before .before .before .before .loop .inv .1 .1)))
 
 -- src/rebuild.rt:31:1
