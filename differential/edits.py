@@ -7,10 +7,13 @@ import tempfile
 from concurrent.futures import ThreadPoolExecutor
 from pathlib import Path
 
-from rattle_to_rust import STD, translated
+from rattle_to_rust import BOUNDARIES, STD, translated
 
 ROOT = Path(__file__).resolve().parent.parent
 TIMEOUT = 300
+# The library with the C functions.
+LIBRARY = "wal_coordination"
+SHARED = f"lib{LIBRARY}.so"
 
 
 def replacements(edit):
@@ -91,6 +94,20 @@ class Version:
         self.texts = texts
         self.folder = folder
         compiled(crates, texts, folder, "--crate-type", kind)
+
+
+def library(crates, texts, folder, *kind, right=None):
+    """A library of this kind with the C functions."""
+    compiled([*crates, (LIBRARY, BOUNDARIES)], texts, folder, *kind, right=right)
+
+
+class Right(Version):
+    """The library without an edit."""
+
+    def __init__(self, crates, folder, kind):
+        texts = {name: translated(ROOT / "crates" / name) for name, _ in crates}
+        texts[LIBRARY] = {"lib.rs": "".join(f"extern crate {name};\n" for name in BOUNDARIES)}
+        super().__init__([*crates, (LIBRARY, BOUNDARIES)], texts, folder, kind)
 
 
 def each(edits, tried):

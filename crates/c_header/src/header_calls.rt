@@ -1,5 +1,6 @@
 // Owners, publishes, bumps and the two locks. The header is lent: one proved call is given it by value, and what that call
-// leaves is stored over it.
+// leaves is stored over it. Where no cell of it changes there is no store, so that such a call can be made on memory that
+// is mapped read-only.
 use c_header_replies::lock_reply;
 use c_header_replies::lock_reply::LockReply;
 use wal_types::Header;
@@ -63,7 +64,9 @@ pub extern "C" fn wal_publish_commit(
 pub extern "C" fn wal_publish_backfill(header: &mut Header, nbackfills: u64)
     ensures { λ _. ⌜ HeaderCall (publish-backfill nbackfills) (now (header .entry)) ok (now (header .exit)) ⌝ }
 {
-    *header = header_publish::publish_backfill(*header, nbackfills);
+    if header_publish::backfill_changes(*header, nbackfills) {
+        *header = header_publish::publish_backfill(*header, nbackfills);
+    }
 }
 
 // Raises the checkpoint number; the answer is the new one.
@@ -97,7 +100,9 @@ pub extern "C" fn wal_try_acquire_writer(
     ensures { λ r. ⌜ LockReplied Writer (try-acquire Writer owner card) (now (header .entry)) «local_owner» (now (header .exit)) r ⌝ }
 {
     let left = lock_reply::try_acquire_writer(*header, local_owner, owner, card);
-    *header = left.header;
+    if left.changes {
+        *header = left.header;
+    }
     left.reply
 }
 
@@ -112,7 +117,9 @@ pub extern "C" fn wal_release_writer(
     ensures { λ r. ⌜ LockReplied Writer (with-mode (mode-given mode) (λ given. release Writer given owner)) (now (header .entry)) «local_owner» (now (header .exit)) r ⌝ }
 {
     let left = lock_reply::release_writer(mode, *header, local_owner, owner);
-    *header = left.header;
+    if left.changes {
+        *header = left.header;
+    }
     left.reply
 }
 
@@ -127,7 +134,9 @@ pub extern "C" fn wal_try_acquire_checkpoint(
     ensures { λ r. ⌜ LockReplied Checkpoint (try-acquire Checkpoint owner card) (now (header .entry)) «local_owner» (now (header .exit)) r ⌝ }
 {
     let left = lock_reply::try_acquire_checkpoint(*header, local_owner, owner, card);
-    *header = left.header;
+    if left.changes {
+        *header = left.header;
+    }
     left.reply
 }
 
@@ -142,6 +151,8 @@ pub extern "C" fn wal_release_checkpoint(
     ensures { λ r. ⌜ LockReplied Checkpoint (with-mode (mode-given mode) (λ given. release Checkpoint given owner)) (now (header .entry)) «local_owner» (now (header .exit)) r ⌝ }
 {
     let left = lock_reply::release_checkpoint(mode, *header, local_owner, owner);
-    *header = left.header;
+    if left.changes {
+        *header = left.header;
+    }
     left.reply
 }

@@ -1,2 +1,3 @@
 -- The lock calls' replies.
+pub mod InnerKept
 pub mod LockReply

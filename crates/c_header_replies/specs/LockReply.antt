@@ -1,5 +1,6 @@
 -- The lock calls' replies. Assumes nothing.
 use mathlib.Core.Path.{_≡_}
+use mathlib.Core.Bool.{Bool}
 use Prim.Native.Nat.{ℕ}
 use Rattle.wal_types.specs.declared.Header.{Header}
 use Rattle.wal_types.specs.Memory.{Memory, Process, with-header}
@@ -10,9 +11,9 @@ use Rattle.c_header_replies.specs.declared.lock_reply.LockReply.{LockRep
 use Rattle.c_header_replies.specs.declared.lock_reply.LockLeft.{LockLeft}
 use Rattle.c_numbers.specs.Reply.{refusal-number, answer-number}
 
--- the header h, and a reply of these numbers
-abbrev pub lock-left : Header → ℕ → ℕ → ℕ → LockLeft
-lock-left h n answer local = record { header = h; reply = record { refusal = n; answer = answer; «local_owner» = local } }
+-- the header h, whether it is another than before, and a reply of these numbers
+abbrev pub lock-left : Header → Bool → ℕ → ℕ → ℕ → LockLeft
+lock-left h changes n answer local = record { header = h; changes = changes; reply = record { refusal = n; answer = answer; «local_owner» = local } }
 
 -- The reply tells what the call answers, the header is as it leaves it, and nothing else changes.
 pub record Told (lock : Lock) (h : Header) (r : LockReply) (z : Memory) (p : Process) (d : Done) : Type 0 where

@@ -11,6 +11,7 @@ ghost use Rattle.wal_types.specs.Call.{Call};
 ghost use Rattle.header_locks.specs.declared.Lock.the-variants.{Writer, Checkpoint};
 ghost use Rattle.header_locks.specs.Locks.{try-acquire, release, AcquireCall, ReleaseCall};
 ghost use Rattle.c_numbers.specs.Mode.{mode-given, with-mode};
+ghost use Rattle.c_header_replies.specs.InnerKept.{LeftKept};
 ghost use Rattle.c_header_replies.specs.LockReply.{lock-left, LockReplied};
 
 // A lock call's answer in numbers. refusal: 0, or the number of the refusal. answer: 1 if the lock was taken or
@@ -22,15 +23,22 @@ pub struct LockReply {
     pub local_owner: u64,
 }
 
-// The header that a lock call leaves, and the reply. At most the lock's cell is set: the rest of the header stays in place
-// when the C function stores it.
+// The header that a lock call leaves, whether it is another than before, and the reply. At most the lock's cell is set: the
+// rest of the header stays in place when the C function stores it.
 pub struct LockLeft {
     pub header: Header,
+    pub changes: bool,
     pub reply: LockReply,
 }
 
-fn left(header: Header, refusal: u32, answer: u32, local_owner: SharedOwnerRecord) -> LockLeft
-    ensures { λ r. ⌜ r ≡ lock-left header refusal answer («local_owner» .0) ⌝ }
+fn left(
+    header: Header,
+    changes: bool,
+    refusal: u32,
+    answer: u32,
+    local_owner: SharedOwnerRecord,
+) -> LockLeft
+    ensures { λ r. ⌜ r ≡ lock-left header changes refusal answer («local_owner» .0) ⌝ }
 {
     let reply = LockReply {
         refusal: refusal,
@@ -39,6 +47,7 @@ fn left(header: Header, refusal: u32, answer: u32, local_owner: SharedOwnerRecor
     };
     LockLeft {
         header: header,
+        changes: changes,
         reply: reply,
     }
 }
@@ -50,15 +59,16 @@ fn acquired(
     local_owner: SharedOwnerRecord,
     answer: LockAcquire,
 ) -> LockLeft
-    ensures { λ r. ⌜ ((call : Call) → AcquireCall lock call («local_owner» .0) answer → LockReplied lock call header («local_owner» .0) (r .header) (r .reply)) ⌝ }
+    ensures { λ r. ⌜ ((call : Call) → AcquireCall lock call («local_owner» .0) answer → LockReplied lock call header («local_owner» .0) (r .header) (r .reply)) × LeftKept header r ⌝ }
 {
     match answer {
         LockAcquire::Taken(owner) => {
             let next = header_locks::with_owner(lock, header, owner);
-            left(next, 0, 1, owner)
+            let changes = header_locks::owner_changes(lock, header, owner);
+            left(next, changes, 0, 1, owner)
         }
-        LockAcquire::Busy => left(header, 0, 0, local_owner),
-        LockAcquire::Refused(number) => left(header, number, 0, local_owner),
+        LockAcquire::Busy => left(header, false, 0, 0, local_owner),
+        LockAcquire::Refused(number) => left(header, false, number, 0, local_owner),
     }
 }
 
@@ -68,20 +78,21 @@ fn released(
     local_owner: SharedOwnerRecord,
     answer: LockRelease,
 ) -> LockLeft
-    ensures { λ r. ⌜ ((call : Call) → ReleaseCall lock call («local_owner» .0) answer → LockReplied lock call header («local_owner» .0) (r .header) (r .reply)) ⌝ }
+    ensures { λ r. ⌜ ((call : Call) → ReleaseCall lock call («local_owner» .0) answer → LockReplied lock call header («local_owner» .0) (r .header) (r .reply)) × LeftKept header r ⌝ }
 {
     match answer {
         LockRelease::Released => {
             let nobody = SharedOwnerRecord(0);
             let next = header_locks::with_owner(lock, header, nobody);
-            left(next, 0, 1, nobody)
+            let changes = header_locks::owner_changes(lock, header, nobody);
+            left(next, changes, 0, 1, nobody)
         }
-        LockRelease::Refused(number) => left(header, number, 0, local_owner),
+        LockRelease::Refused(number) => left(header, false, number, 0, local_owner),
     }
 }
 
 pub fn try_acquire_writer(header: Header, local_owner: u64, owner: u64, card: u8) -> LockLeft
-    ensures { λ r. ⌜ LockReplied Writer (try-acquire Writer owner card) header «local_owner» (r .header) (r .reply) ⌝ }
+    ensures { λ r. ⌜ LockReplied Writer (try-acquire Writer owner card) header «local_owner» (r .header) (r .reply) × LeftKept header r ⌝ }
 {
     let local = SharedOwnerRecord(local_owner);
     let answer = header_locks::try_acquire_writer(local, SharedOwnerRecord(owner), card);
@@ -89,7 +100,7 @@ pub fn try_acquire_writer(header: Header, local_owner: u64, owner: u64, card: u8
 }
 
 pub fn try_acquire_checkpoint(header: Header, local_owner: u64, owner: u64, card: u8) -> LockLeft
-    ensures { λ r. ⌜ LockReplied Checkpoint (try-acquire Checkpoint owner card) header «local_owner» (r .header) (r .reply) ⌝ }
+    ensures { λ r. ⌜ LockReplied Checkpoint (try-acquire Checkpoint owner card) header «local_owner» (r .header) (r .reply) × LeftKept header r ⌝ }
 {
     let local = SharedOwnerRecord(local_owner);
     let answer = header_locks::try_acquire_checkpoint(local, SharedOwnerRecord(owner), card);
@@ -98,7 +109,7 @@ pub fn try_acquire_checkpoint(header: Header, local_owner: u64, owner: u64, card
 
 // Refused if mode is no mode's number.
 pub fn release_writer(mode: u32, header: Header, local_owner: u64, owner: u64) -> LockLeft
-    ensures { λ r. ⌜ LockReplied Writer (with-mode (mode-given mode) (λ given. release Writer given owner)) header «local_owner» (r .header) (r .reply) ⌝ }
+    ensures { λ r. ⌜ LockReplied Writer (with-mode (mode-given mode) (λ given. release Writer given owner)) header «local_owner» (r .header) (r .reply) × LeftKept header r ⌝ }
 {
     let local = SharedOwnerRecord(local_owner);
     let Mode::Given(given) = c_numbers::mode_of(mode) else {
@@ -110,7 +121,7 @@ pub fn release_writer(mode: u32, header: Header, local_owner: u64, owner: u64) -
 }
 
 pub fn release_checkpoint(mode: u32, header: Header, local_owner: u64, owner: u64) -> LockLeft
-    ensures { λ r. ⌜ LockReplied Checkpoint (with-mode (mode-given mode) (λ given. release Checkpoint given owner)) header «local_owner» (r .header) (r .reply) ⌝ }
+    ensures { λ r. ⌜ LockReplied Checkpoint (with-mode (mode-given mode) (λ given. release Checkpoint given owner)) header «local_owner» (r .header) (r .reply) × LeftKept header r ⌝ }
 {
     let local = SharedOwnerRecord(local_owner);
     let Mode::Given(given) = c_numbers::mode_of(mode) else {

@@ -1,4 +1,5 @@
-// The calls on the frame index. Those that change it have the header lent; a lookup and a list are given it by value.
+// The calls on the frame index. Those that change it have the header lent, and store over it only where a cell of it
+// changes; a lookup and a list are given it by value.
 use c_index_replies::index_reply;
 use c_index_replies::index_reply::IndexReply;
 use c_index_replies::lookup_reply;
@@ -44,7 +45,9 @@ pub extern "C" fn wal_record_frame(
         grow,
     );
     let left = index_reply::left(*header, done);
-    *header = left.header;
+    if left.changes {
+        *header = left.header;
+    }
     left.reply
 }
 
@@ -71,7 +74,9 @@ pub extern "C" fn wal_rollback_frames(
         max_frame,
     );
     let left = index_reply::left(*header, done);
-    *header = left.header;
+    if left.changes {
+        *header = left.header;
+    }
     left.reply
 }
 

@@ -16,9 +16,9 @@ use Rattle.c_numbers.specs.Reply.{refusal-number, answer-number}
 abbrev pub reply-of : Answer → IndexReply
 reply-of a = record { refusal = refusal-number a; answer = answer-number a }
 
--- the header with the cells of what is done in it, and the reply
+-- the header with the cells of what is done in it, whether it is another than before, and the reply
 abbrev pub index-left : IndexDone → Header → IndexLeft
-index-left d h = record { header = with-cells (d .cells) h; reply = d .reply }
+index-left d h = record { header = with-cells (d .cells) h; changes = d .changes; reply = d .reply }
 
 -- The reply tells what the call answers, the header and index are as it leaves them, and nothing else changes.
 pub record Told (r : IndexReply) (z : Memory) (h : Header) (ps fs hs : List ℕ) (p : Process) (d : Done) : Type 0 where

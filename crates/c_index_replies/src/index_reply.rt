@@ -7,12 +7,13 @@ use index_record::rollback;
 use index_record::rollback::RollbackAnswer;
 use wal_types::Header;
 ghost use mathlib.Core.Path.{_≡_};
-ghost use mathlib.Core.Bool.{not};
+ghost use mathlib.Core.Bool.{false, not};
 ghost use lib.Dec.{eqb};
 ghost use Rattle.index_end.specs.Cells.{with-cells};
 ghost use Rattle.index_record.specs.Record.{record-frame, record-answer};
 ghost use Rattle.index_record.specs.Rollback.{rollback-frames, rollback-answer};
 ghost use Rattle.c_index_replies.specs.IndexReply.{reply-of, index-left, IndexReplied};
+ghost use Rattle.c_index_replies.specs.InnerKept.{CellsKept};
 
 // The answer of a record or a rollback in numbers. refusal: 0, or the number of the refusal. answer: 1 stored, 0 dropped;
 // for a rollback the kept length.
@@ -22,15 +23,17 @@ pub struct IndexReply {
     pub answer: u32,
 }
 
-// The reply, and the index's cells of the header as the call leaves them.
+// The reply, the index's cells of the header as the call leaves them, and whether one of them changes.
 pub struct IndexDone {
     pub reply: IndexReply,
     pub cells: IndexCells,
+    pub changes: bool,
 }
 
-// The header that such a call leaves, and the reply.
+// The header that such a call leaves, whether it is another than before, and the reply.
 pub struct IndexLeft {
     pub header: Header,
+    pub changes: bool,
     pub reply: IndexReply,
 }
 
@@ -51,6 +54,17 @@ fn record_reply(answer: RecordAnswer) -> IndexReply
             answer: 0,
         },
     }
+}
+
+// Whether a record with this answer changes the header. One that is stored does, unless it puts frame 1 again into an index
+// of one entry: that is not asked, since a stored record writes its entry in any case.
+fn record_changes(header: Header, answer: RecordAnswer, cells: IndexCells) -> bool
+    ensures { λ r. ⌜ (r ≡ false → with-cells cells header ≡ header) ⌝ }
+{
+    let RecordAnswer::Stored = answer else {
+        return cells::cells_change(header, cells);
+    };
+    true
 }
 
 fn rollback_reply(answer: RollbackAnswer) -> IndexReply
@@ -76,6 +90,7 @@ pub fn left(header: Header, done: IndexDone) -> IndexLeft
     let reply = done.reply;
     IndexLeft {
         header: cells::with_index_cells(header, cells),
+        changes: done.changes,
         reply: reply,
     }
 }
@@ -91,7 +106,7 @@ pub fn record_frame(
     frame_id: u64,
     grow: u32,
 ) -> IndexDone
-    ensures { λ r. ⌜ IndexReplied (record-frame capacity «max_blocks» «page_id» «frame_id» (not (eqb grow 0))) header (now (pages .entry)) (now (frames .entry)) (now (hash .entry)) (r .reply) (with-cells (r .cells) header) (now (pages .exit)) (now (frames .exit)) (now (hash .exit)) ⌝ }
+    ensures { λ r. ⌜ IndexReplied (record-frame capacity «max_blocks» «page_id» «frame_id» (not (eqb grow 0))) header (now (pages .entry)) (now (frames .entry)) (now (hash .entry)) (r .reply) (with-cells (r .cells) header) (now (pages .exit)) (now (frames .exit)) (now (hash .exit)) × CellsKept header r ⌝ }
 {
     let recorded = record::record_frame(
         capacity,
@@ -109,6 +124,7 @@ pub fn record_frame(
     IndexDone {
         reply: record_reply(answer),
         cells: cells,
+        changes: record_changes(header, answer, cells),
     }
 }
 
@@ -121,7 +137,7 @@ pub fn rollback_frames(
     hash: &mut [u16],
     max_frame: u64,
 ) -> IndexDone
-    ensures { λ r. ⌜ IndexReplied (rollback-frames capacity «max_blocks» «max_frame») header (now (pages .entry)) (now (frames .entry)) (now (hash .entry)) (r .reply) (with-cells (r .cells) header) (now (pages .entry)) (now (frames .entry)) (now (hash .exit)) ⌝ }
+    ensures { λ r. ⌜ IndexReplied (rollback-frames capacity «max_blocks» «max_frame») header (now (pages .entry)) (now (frames .entry)) (now (hash .entry)) (r .reply) (with-cells (r .cells) header) (now (pages .entry)) (now (frames .entry)) (now (hash .exit)) × CellsKept header r ⌝ }
 {
     let rolled_back = rollback::rollback_frames(
         capacity,
@@ -137,5 +153,6 @@ pub fn rollback_frames(
     IndexDone {
         reply: rollback_reply(answer),
         cells: cells,
+        changes: cells::cells_change(header, cells),
     }
 }

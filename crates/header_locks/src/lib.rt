@@ -6,10 +6,11 @@ use wal_types::SharedOwnerRecord;
 use wal_types::SharedWalOwnershipMode;
 use wal_types::refusal;
 ghost use mathlib.Core.Path.{_≡_};
-ghost use mathlib.Core.Bool.{not, _&&_};
+ghost use mathlib.Core.Bool.{false, not, _&&_};
 ghost use lib.Dec.{eqb};
 ghost use Rattle.wal_types.specs.Memory.{header-with};
 ghost use Rattle.wal_types.specs.Settings.{is-fcntl};
+ghost use Rattle.header_locks.specs.InnerChange.{shared-owner};
 ghost use Rattle.header_locks.specs.Locks.{owner-cell, try-acquire, release, AcquireCall, ReleaseCall};
 
 pub enum Lock {
@@ -44,6 +45,16 @@ pub fn with_owner(lock: Lock, header: Header, owner: SharedOwnerRecord) -> Heade
             next.checkpoint_owner = owner.0;
             next
         }
+    }
+}
+
+// Whether that header is another one. Where it is not, there is nothing to store.
+pub fn owner_changes(lock: Lock, header: Header, owner: SharedOwnerRecord) -> bool
+    ensures { λ r. ⌜ (r ≡ not (eqb (owner .0) (shared-owner lock header))) × (r ≡ false → header-with (owner-cell lock) (owner .0) header ≡ header) ⌝ }
+{
+    match lock {
+        Lock::Writer => owner.0 != header.writer_owner,
+        Lock::Checkpoint => owner.0 != header.checkpoint_owner,
     }
 }
 

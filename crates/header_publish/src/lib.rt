@@ -1,7 +1,9 @@
 // Publishes and bumps. The header goes in by value and comes back.
 use wal_types::Header;
 ghost use mathlib.Core.Path.{_≡_};
+ghost use mathlib.Core.Bool.{not};
 ghost use Prim.Native.Nat.{max};
+ghost use lib.Dec.{eqb};
 ghost use Rattle.wal_types.specs.Call.{ok, value};
 ghost use Rattle.header_publish.specs.Publish.{publish-commit, publish-backfill, bump-checkpoint-seq, bump-checkpoint-epoch, HeaderCall};
 
@@ -50,6 +52,13 @@ pub fn publish_backfill(header: Header, nbackfills: u64) -> Header
     let mut next = header;
     next.nbackfills = nbackfills;
     next
+}
+
+// Whether that header is another.
+pub fn backfill_changes(header: Header, nbackfills: u64) -> bool
+    ensures { λ r. ⌜ r ≡ not (eqb nbackfills (header .nbackfills)) ⌝ }
+{
+    nbackfills != header.nbackfills
 }
 
 // Answers the new checkpoint number.

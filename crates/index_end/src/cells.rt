@@ -1,7 +1,9 @@
 // The header's cells that a record and a rollback work on, apart from the rest of it.
 use wal_types::Header;
 ghost use mathlib.Core.Path.{_≡_};
+ghost use mathlib.Core.Bool.{false};
 ghost use Rattle.index_end.specs.Cells.{cells-of, with-cells};
+ghost use Rattle.index_end.specs.InnerChange.{cells-change};
 
 // The calls answer these and no header, so the rest of it stays as it was. The published frame, max_frame, is only read.
 // (With it the struct is too wide for a pair of registers. Packed into one, cells that were just stored would be read
@@ -33,4 +35,17 @@ pub fn with_index_cells(header: Header, cells: IndexCells) -> Header
     next.frame_index_len = cells.frame_index_len;
     next.frame_index_overflowed = cells.frame_index_overflowed;
     next
+}
+
+// Whether that header is another one. Where it is not, there is nothing to store.
+pub fn cells_change(header: Header, cells: IndexCells) -> bool
+    ensures { λ r. ⌜ (r ≡ cells-change cells header) × (r ≡ false → with-cells cells header ≡ header) ⌝ }
+{
+    if cells.frame_index_len != header.frame_index_len {
+        return true;
+    }
+    if cells.frame_index_overflowed != header.frame_index_overflowed {
+        return true;
+    }
+    cells.frame_index_blocks != header.frame_index_blocks
 }

@@ -1,11 +1,12 @@
 -- The refusals of update_reader from 9 on and of unregister_reader, and the calls that are accepted. Assumes nothing.
-use mathlib.Core.Path.{_≡_, _∙_}
+use mathlib.Core.Path.{_≡_, sym, ap, _∙_, subst}
 use mathlib.Core.Bool.{Bool, true, false, not, _&&_, _||_}
 use mathlib.Core.List.{List, [], _∷_, _++_}
 use Prim.Native.Nat.{ℕ, _<_, _≤_}
 use native.Mathlib.Omega.{arith}
 use lib.Dec.{eqb, leb}
 use lib.ListN.{length, getD, set}
+use lib.Seq.{set-getD}
 use borrow.Author.Tests.{eq-eqb, ne-eqb, le-leb, lt-leb, le-ltb}
 use Rattle.wal_types.specs.declared.SharedWalOwnershipMode.{SharedWalOwnershipMode}
 use Rattle.wal_types.specs.Memory.{Memory, Process, to-reader-frame}
@@ -43,6 +44,10 @@ module _ (n slot owner mark : ℕ) (shared : Bool) (records : ℕ) (f o : List �
   pub move-done : j ≡ 0 → shared ≡ false → Moves (slot-taken slot owner mark) (set f slot mark)
   unfolding update-reader reader-refusal
   move-done x y z p s g = accepts (update-tests n slot owner mark) moves (slots-in z (z .bitmap) f o) p (move-number z p s g ∙ lowest-rest (reader-tests owner mark) last-test j e x ∙ rw y)
+
+  -- to the mark that the slot has already: nothing is stored
+  pub move-stays : j ≡ 0 → shared ≡ false → getD f slot 0 ≡ mark → Moves (slot-taken slot owner mark) f
+  move-stays x y there = subst (Moves (slot-taken slot owner mark)) (ap (set f slot) (sym there) ∙ set-getD f slot 0) (move-done x y)
 
 -- unregister_reader: the owner given is not the shared one, or in Fcntl not the local one
 abbrev pub other : SharedWalOwnershipMode → ℕ → ℕ → List ℕ → List ℕ → Bool

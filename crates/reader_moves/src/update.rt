@@ -72,6 +72,10 @@ pub fn update_core(
     if in_registry {
         return Update::Refused(refusal::SHARED_SLOT);
     }
+    // A reader that has the mark already is left as it is: no store.
+    if reader_frames[slot] == mark {
+        return Update::Moved;
+    }
     reader_frames[slot] = mark;
     Update::Moved
 }

@@ -48,6 +48,7 @@ use denote.Triple.Walked.{says, Stays, gave-slice, stay-none, stay-none-slice, s
 use Rattle.header_locks.specs.declared.Lock.the-variants.{Writer}
 use Rattle.header_locks.specs.Locks.{try-acquire}
 use Rattle.c_header_replies.specs.LockReply.{LockReplied}
+use Rattle.c_header_replies.specs.InnerKept.{LeftKept}
 use Rattle.wal_types.specs.declared.Header.{Header}
 use Rattle.wal_types.proofs.Header as HeaderT
 use Rattle.wal_types.proofs.Header.Laws as HeaderL
@@ -57,6 +58,7 @@ use Rattle.c_header_replies.proofs.lock_reply.LockReply.Laws as LockReplyL
 use Rattle.c_header_replies.specs.declared.lock_reply.LockLeft.{LockLeft}
 use Rattle.c_header_replies.proofs.lock_reply.LockLeft as LockLeftT
 use Rattle.c_header_replies.proofs.lock_reply.LockLeft.Laws as LockLeftL
+use Rattle.c_header.proofs.Kept.{lock-kept}
 use Rattle.c_header_replies.proofs.lock_reply.try_acquire_writer as try-acquire-writer-fn
 use Rattle.c_header_replies.proofs.lock_reply.try_acquire_writer.Symbol as try-acquire-writer-def
 use Rattle.c_header_replies.proofs.lock_reply.try_acquire_writer.Symbol.{name as #c-header-replies·lock-reply·try-acquire-writer}
@@ -65,6 +67,25 @@ use Rattle.c_header.proofs.header_calls.wal_try_acquire_writer.Key.{nam
 use Rattle.c_header.proofs.header_calls.wal_try_acquire_writer as entry
 use Rattle.c_header.proofs.header_calls.wal_try_acquire_writer.Statement as stated
 use Rattle.c_header.proofs.header_calls.wal_try_acquire_writer.Code as code
+use mathlib.Core.Path.{sym, _∙_}
+use lib.Dec.{ltb, ltb→lt, nltb→le}
+use lib.ListN.{getD, length-set}
+use mir.Syntax.{imm, mut, tyRef, tyPtr}
+use base.Fml.{froom, fdies, fobs, fbor}
+use borrow.Author.Needs.{scaled-fits}
+use types.Kit.{atRet, runs, Sq}
+use types.Run.{bin, first, branches, skips, exec, assigns-last, returns-within}
+use denote.Memory.{pointee}
+use denote.Shadow.{pureI}
+use denote.Lend.{Held}
+use denote.Slice.{sliceTy, heres, codedHoleys, at-slice}
+use denote.Index.{place-is, elem-out, elem-back, elem-put, looks-slice, shuts-slice}
+use denote.Triple.Walked.{stay-slice, goes-slice}
+use mir.Syntax.{erased}
+use base.Fml.{fobor, fauth}
+use types.SemTy.{Body}
+use denote.Memory.{cellAt, mem as in-memory}
+use Rattle.c_header.proofs.header_calls.wal_try_acquire_writer.Code.Mir as mir′
 
 abbrev stayed : Stays (entry.ended .signature .params) (entry.ended .kept)
 stayed = (stay-ref (0 ∷ []) tt (plain (λ _. HeaderT.the-row)), (stay-none (λ _. u64) yes, (stay-none (λ _. u64) yes, (stay-none (λ _. u8) yes, tt))))
@@ -112,41 +133,58 @@ module _ {M : Type 1} (𝓤 : URA M) (H : Heap 𝓤) (A : Atoms 𝓤) (W : Given
   goes-try-acquire-writer = qed W (‵ ftrue ∷ ‵ (owns (HeaderT.the-row ∷ u64 ∷ u64 ∷ u8 ∷ []) (args-try-acquire-writer) (vals-try-acquire-writer)) ∷ []) ∵ join ! $ frame ! $ done !
 
   abbrev Says-try-acquire-writer : LockLeft → Type 0
-  Says-try-acquire-writer t1 = LockReplied Writer (try-acquire Writer owner card) (header .now) local-owner (t1 .header) (t1 .reply)
+  Says-try-acquire-writer t1 = LockReplied Writer (try-acquire Writer owner card) (header .now) local-owner (t1 .header) (t1 .reply) × LeftKept (header .now) t1
 
   module _ (C : Calls 𝓤 H) (Λ : Loops 𝓤 H) (fm : FmC 𝓤 H (W .laws) C) (known-try-acquire-writer : Triple 𝓤 (C #c-header-replies·lock-reply·try-acquire-writer) (Meets-try-acquire-writer 𝓤 H A mem run)) where
+    branch : (l₀ l₁ l₂ l₃ l₄ l₅ l₆ l₇ : ℕ) (is-header : Is HeaderT.the-row (header .now) (LL.val HeaderT.the-type HeaderL.the-laws (header .now) ∷ [])) (t1 : LockLeft) (is-t1 : Is LockLeftT.the-row t1 (LL.val LockLeftT.the-type LockLeftL.the-laws t1 ∷ [])) (e1 : Says-try-acquire-writer t1) → Sq W (‵ (cellAt fullShare (HeaderT.the-row .mir) (LL.val HeaderT.the-type HeaderL.the-laws (header .now) ∷ []) (header .ptr .0) (header .ptr .1)) ∷ ‵ (fobor κ0 q0 (Body (in-memory HeaderT.the-row) (header .ptr .0) (header .ptr .1) (header .name))) ∷ ‵ (fobs (header .name) (HeaderT.the-row .coded .code (header .now))) ∷ ‵ (fauth (header .name) (HeaderT.the-row .coded .code (header .now))) ∷ ‵ (fat fullShare (tyBool) l₇ 0 (vbool (t1 .changes))) ∷ ‵ (fdies (tyBool) l₇) ∷ ‵ (fat fullShare (HeaderL.mir) l₆ 0 (LL.val HeaderT.the-type HeaderL.the-laws (header .now))) ∷ ‵ (fdies (HeaderL.mir) l₆) ∷ ‵ (fat fullShare (LockLeftL.mir) l₅ 0 (LL.val LockLeftT.the-type LockLeftL.the-laws t1)) ∷ ‵ (fdies (LockLeftL.mir) l₅) ∷ ‵ (fat fullShare (tyInt w8) l₄ 0 (vint w8 card)) ∷ ‵ (fdies (tyInt w8) l₄) ∷ ‵ (fat fullShare (tyInt w64) l₃ 0 (vint w64 owner)) ∷ ‵ (fdies (tyInt w64) l₃) ∷ ‵ (fat fullShare (tyInt w64) l₂ 0 (vint w64 local-owner)) ∷ ‵ (fdies (tyInt w64) l₂) ∷ ‵ (fat fullShare (tyRef (named 0) mut (pointee (HeaderT.the-row .written))) l₁ 0 (vptr (header .ptr .0) (header .ptr .1))) ∷ ‵ (fdies (tyRef (named 0) mut (pointee (HeaderT.the-row .written))) l₁) ∷ ‵ (froom (LockReplyL.mir) l₀ 0) ∷ ‵ (fdies (LockReplyL.mir) l₀) ∷ []) (runs C Λ ((LockReplyL.mir, l₀) ∷ (tyRef (named 0) mut (pointee (HeaderT.the-row .written)), l₁) ∷ (tyInt w64, l₂) ∷ (tyInt w64, l₃) ∷ (tyInt w8, l₄) ∷ (LockLeftL.mir, l₅) ∷ (HeaderL.mir, l₆) ∷ (tyBool, l₇) ∷ []) mir′.t-4 (atRet ((LockReplyL.mir, l₀) ∷ (tyRef (named 0) mut (pointee (HeaderT.the-row .written)), l₁) ∷ (tyInt w64, l₂) ∷ (tyInt w64, l₃) ∷ (tyInt w8, l₄) ∷ (LockLeftL.mir, l₅) ∷ (HeaderL.mir, l₆) ∷ (tyBool, l₇) ∷ []) Post))
+    branch l₀ l₁ l₂ l₃ l₄ l₅ l₆ l₇ is-header t1 is-t1 e1 =
+        first ! $ branches ! (load ! (from ! (stop !)) (look ! 4 refl)) (λ holds.
+        assigns-last ! (of-opd ! (load ! (from ! (fld ! refl (stop !))) (look-in ! 8 (sub ! 0 refl (whole !))))) (from ! (hop ! (look ! 16 refl) (stop !))) (store-raw ! 0 refl (LL.lawful HeaderT.the-type HeaderL.the-laws 𝓤 H A W .typed (t1 .header) _ (LL.owed LockLeftT.the-type LockLeftL.the-laws t1 _ is-t1 .0) .0)) $ exec ! C Λ ((LockReplyL.mir, l₀) ∷ (tyRef (named 0) mut (pointee (HeaderT.the-row .written)), l₁) ∷ (tyInt w64, l₂) ∷ (tyInt w64, l₃) ∷ (tyInt w8, l₄) ∷ (LockLeftL.mir, l₅) ∷ (HeaderL.mir, l₆) ∷ (tyBool, l₇) ∷ []) mir′.t-5 (atRet ((LockReplyL.mir, l₀) ∷ (tyRef (named 0) mut (pointee (HeaderT.the-row .written)), l₁) ∷ (tyInt w64, l₂) ∷ (tyInt w64, l₃) ∷ (tyInt w8, l₄) ∷ (LockLeftL.mir, l₅) ∷ (HeaderL.mir, l₆) ∷ (tyBool, l₇) ∷ []) Post) $
+        assigns ! (of-opd ! (load ! (from ! (fld ! refl (stop !))) (look-in ! 8 (sub ! 2 refl (whole !))))) (from ! (stop !)) (init ! 18 refl (LL.lawful LockReplyT.the-type LockReplyL.the-laws 𝓤 H A W .typed (t1 .reply) _ (LL.owed LockLeftT.the-type LockLeftL.the-laws t1 _ is-t1 .1 .1 .0) .0)) $
+        -- the borrow of `header` is closed
+        owned ! HeaderT.the-row (Is HeaderT.the-row) (LL.makes HeaderT.the-type HeaderL.the-plain 𝓤 H A) (t1 .header) _ (LL.owed LockLeftT.the-type LockLeftL.the-laws t1 _ is-t1 .0) $ move ! (1 ∷ 0 ∷ 2 ∷ 3 ∷ 4 ∷ []) $
+        closes ! tt HeaderT.the-row (t1 .header) (LL.val HeaderT.the-type HeaderL.the-laws (t1 .header) ∷ []) (header .ptr .0) (header .ptr .1) $ feqI ! (List Val) (ptr-vals header) (ptr-vals header) refl $ fjoin3 ! $
+        -- the end
+        returns ! (look ! 16 refl) $ forget ! 2 refl $ forget ! 4 refl $ forget ! 6 refl $ forget ! 8 refl $ forget ! 10 refl $ forget ! 12 refl $ forget ! 14 refl $ forget ! 16 refl $ move ! (16 ∷ 17 ∷ []) $ free1 ! $
+        move ! (14 ∷ 15 ∷ []) $ free1 ! $ move ! (12 ∷ 13 ∷ []) $ free1 ! $ move ! (10 ∷ 11 ∷ []) $ free1 ! $ move ! (8 ∷ 9 ∷ []) $ free1 ! $ move ! (6 ∷ 7 ∷ []) $ free1 ! $ move ! (4 ∷ 5 ∷ []) $ free1 ! $ move ! (2 ∷ 3 ∷ []) $
+        free1 ! $ free0 ! $ nothing ! $ move ! (2 ∷ 0 ∷ []) $ join ! $ keep ! (0 ∷ 1 ∷ []) $ by ! (exits (t1 .reply) (LL.owed LockLeftT.the-type LockLeftL.the-laws t1 _ is-t1 .1 .1 .0) (t1 .header) (e1 .0)))
+        -- the other way
+        (λ fails. skips ! $ exec ! C Λ ((LockReplyL.mir, l₀) ∷ (tyRef (named 0) mut (pointee (HeaderT.the-row .written)), l₁) ∷ (tyInt w64, l₂) ∷ (tyInt w64, l₃) ∷ (tyInt w8, l₄) ∷ (LockLeftL.mir, l₅) ∷ (HeaderL.mir, l₆) ∷ (tyBool, l₇) ∷ []) mir′.t-5 (atRet ((LockReplyL.mir, l₀) ∷ (tyRef (named 0) mut (pointee (HeaderT.the-row .written)), l₁) ∷ (tyInt w64, l₂) ∷ (tyInt w64, l₃) ∷ (tyInt w8, l₄) ∷ (LockLeftL.mir, l₅) ∷ (HeaderL.mir, l₆) ∷ (tyBool, l₇) ∷ []) Post) $
+        assigns ! (of-opd ! (load ! (from ! (fld ! refl (stop !))) (look-in ! 8 (sub ! 2 refl (whole !))))) (from ! (stop !)) (init ! 18 refl (LL.lawful LockReplyT.the-type LockReplyL.the-laws 𝓤 H A W .typed (t1 .reply) _ (LL.owed LockLeftT.the-type LockLeftL.the-laws t1 _ is-t1 .1 .1 .0) .0)) $
+        -- the borrow of `header` is closed
+        owned ! HeaderT.the-row (Is HeaderT.the-row) (LL.makes HeaderT.the-type HeaderL.the-plain 𝓤 H A) (header .now) _ is-header $ move ! (1 ∷ 0 ∷ 2 ∷ 3 ∷ 4 ∷ []) $
+        closes ! tt HeaderT.the-row (header .now) (LL.val HeaderT.the-type HeaderL.the-laws (header .now) ∷ []) (header .ptr .0) (header .ptr .1) $ feqI ! (List Val) (ptr-vals header) (ptr-vals header) refl $ fjoin3 ! $
+        -- the end
+        returns ! (look ! 16 refl) $ forget ! 2 refl $ forget ! 4 refl $ forget ! 6 refl $ forget ! 8 refl $ forget ! 10 refl $ forget ! 12 refl $ forget ! 14 refl $ forget ! 16 refl $ move ! (16 ∷ 17 ∷ []) $ free1 ! $
+        move ! (14 ∷ 15 ∷ []) $ free1 ! $ move ! (12 ∷ 13 ∷ []) $ free1 ! $ move ! (10 ∷ 11 ∷ []) $ free1 ! $ move ! (8 ∷ 9 ∷ []) $ free1 ! $ move ! (6 ∷ 7 ∷ []) $ free1 ! $ move ! (4 ∷ 5 ∷ []) $ free1 ! $ move ! (2 ∷ 3 ∷ []) $
+        free1 ! $ free0 ! $ nothing ! $ move ! (2 ∷ 0 ∷ []) $ join ! $ keep ! (0 ∷ 1 ∷ []) $
+        by ! (exits (t1 .reply) (LL.owed LockLeftT.the-type LockLeftL.the-laws t1 _ is-t1 .1 .1 .0) (header .now) (lock-kept Writer (try-acquire Writer owner card) _ local-owner t1 e1 fails)))
+
     walk : ent 𝓤 (onEntry 𝓤 H A entry.signature (κ0, tt) (q0, tt) passed at) (WpFn 𝓤 H C Λ code.function flat Post)
     walk =
         qed W ((‵ (flft κ0 q0) ⊛ ‵ ftrue) ∷ ‵ (owns (MutRef (named 0) κ0 HeaderT.the-row ∷ u64 ∷ u64 ∷ u8 ∷ []) passed at) ∷ []) ∵ enter ! C Λ code.function flat _ $
-        alloc1 ! (λ l₀. alloc1 ! (λ l₁. alloc1 ! (λ l₂. alloc1 ! (λ l₃. alloc1 ! (λ l₄. alloc1 ! (λ l₅. alloc1 ! (λ l₆. alloc0 ! $ params1 ! $ pass1 ! (init ! 10 refl (tt, tt)) $
-        pass1 ! (init ! 8 refl (tt, record { fits = fits-local-owner })) $ pass1 ! (init ! 6 refl (tt, record { fits = fits-owner })) $ pass1 ! (init ! 4 refl (tt, record { fits = fits-card })) $ pass0 ! $ move ! (15 ∷ []) $
-        fsplit ! $ move ! (1 ∷ []) $ fsplit ! $ drop ! $ fsplit ! $ drop ! $ fsplit ! $ drop ! $ drop ! $ move ! (15 ∷ []) $ split ! $ move ! (1 ∷ []) $ drop ! $
+        alloc1 ! (λ l₀. alloc1 ! (λ l₁. alloc1 ! (λ l₂. alloc1 ! (λ l₃. alloc1 ! (λ l₄. alloc1 ! (λ l₅. alloc1 ! (λ l₆. alloc1 ! (λ l₇. alloc0 ! $ params1 ! $ pass1 ! (init ! 12 refl (tt, tt)) $
+        pass1 ! (init ! 10 refl (tt, record { fits = fits-local-owner })) $ pass1 ! (init ! 8 refl (tt, record { fits = fits-owner })) $ pass1 ! (init ! 6 refl (tt, record { fits = fits-card })) $ pass0 ! $ move ! (17 ∷ []) $
+        fsplit ! $ move ! (1 ∷ []) $ fsplit ! $ drop ! $ fsplit ! $ drop ! $ fsplit ! $ drop ! $ drop ! $ move ! (17 ∷ []) $ split ! $ move ! (1 ∷ []) $ drop ! $
         -- the borrow of `header` is opened
         move ! (1 ∷ []) $ fsplit3 ! $ drop ! $ opens ! tt HeaderT.the-row {h = (header .now)} (header .ptr .0) (header .ptr .1) (λ vs-header.
         spelt ! HeaderT.the-row (Is HeaderT.the-row) (shows 𝓤 H A HeaderT.the-row) (LL.vals HeaderT.the-type HeaderL.the-laws) (LL.tells HeaderT.the-type HeaderL.the-laws) fullShare (header .now) vs-header (header .ptr .0) (header .ptr .1) $
         move ! (1 ∷ []) $ peeks ! HeaderT.the-row (Is HeaderT.the-row) (shows 𝓤 H A HeaderT.the-row) (header .now) (LL.val HeaderT.the-type HeaderL.the-laws (header .now) ∷ []) (λ is-header. drop ! $
-        assigns ! (of-opd ! (load ! (from ! (hop ! (look ! 14 refl) (stop !))) (look-raw ! 0 refl))) (from ! (stop !)) (init ! 4 refl (LL.lawful HeaderT.the-type HeaderL.the-laws 𝓤 H A W .typed (header .now) _ is-header .0)) $
+        assigns ! (of-opd ! (load ! (from ! (hop ! (look ! 16 refl) (stop !))) (look-raw ! 0 refl))) (from ! (stop !)) (init ! 6 refl (LL.lawful HeaderT.the-type HeaderL.the-laws 𝓤 H A W .typed (header .now) _ is-header .0)) $
         -- `try_acquire_writer`
         nothing ! $ owned ! u8 (Is u8) (uint-makes 𝓤 H A W w8) card _ (refl, fits-card) $ fjoin ! $ owned ! u64 (Is u64) (uint-makes 𝓤 H A W w64) owner _ (refl, fits-owner) $ fjoin ! $
         owned ! u64 (Is u64) (uint-makes 𝓤 H A W w64) local-owner _ (refl, fits-local-owner) $ fjoin ! $
         owned ! HeaderT.the-row (Is HeaderT.the-row) (LL.makes HeaderT.the-type HeaderL.the-plain 𝓤 H A) (header .now) _ is-header $ fjoin ! $ nothing ! $
         use2 W (raw (Meets-try-acquire-writer 𝓤 H A mem run .pre to-try-acquire-writer)) goes-try-acquire-writer $
-        calls-at ! fm (Meets-try-acquire-writer 𝓤 H A mem run) known-try-acquire-writer to-try-acquire-writer (and-then ! (load ! (from ! (stop !)) (look ! 5 refl)) (and-then ! (load ! (from ! (stop !)) (look ! 13 refl)) (and-then ! (load ! (from ! (stop !)) (look ! 11 refl)) (and-then ! (load ! (from ! (stop !)) (look ! 9 refl)) (no-more !))))) (λ v1.
+        calls-at ! fm (Meets-try-acquire-writer 𝓤 H A mem run) known-try-acquire-writer to-try-acquire-writer (and-then ! (load ! (from ! (stop !)) (look ! 7 refl)) (and-then ! (load ! (from ! (stop !)) (look ! 15 refl)) (and-then ! (load ! (from ! (stop !)) (look ! 13 refl)) (and-then ! (load ! (from ! (stop !)) (look ! 11 refl)) (no-more !))))) (λ v1.
         use1 W (later (some (λ (t1 : LockLeft). (‵ ftrue ⊛ ‵ (LockLeftT.the-row .own t1 (v1 ∷ []))) ⊛ raw (ensured 𝓤 H A try-acquire-writer-fn.ended (try-acquire-writer-fn.clauses 𝓤 H A mem run) tt (args-try-acquire-writer) tt t1)))) (id⊢ 𝓤 _) $ await ! tt $ pick ! (λ t1.
         split ! $ move ! (1 ∷ []) $
         use1 W (some (λ (ws1 : Unit {0} × (Unit {0} × (Unit {0} × (Unit {0} × Unit {0})))). ‵ (lasts try-acquire-writer-fn.ended tt (args-try-acquire-writer) ws1) ⊛ raw (fact 𝓤 (Says-try-acquire-writer t1)))) (id⊢ 𝓤 _) $ pick ! (λ ws1.
         split ! $ move ! (1 ∷ []) $ heard ! (Says-try-acquire-writer t1) (λ e1. drop ! $ split ! $ move ! (1 ∷ []) $ peeks ! LockLeftT.the-row (Is LockLeftT.the-row) (shows 𝓤 H A LockLeftT.the-row) t1 (v1 ∷ []) (λ is1. drop ! $
-        land ! (from ! (stop !)) (init ! 7 refl (LL.lawful LockLeftT.the-type LockLeftL.the-laws 𝓤 H A W .typed t1 _ is1 .0)) $
-        rewrite ! 7 (λ (u : Val). ‵ (fat fullShare LockLeftL.mir l₅ 0 u)) (ap only (LL.tells LockLeftT.the-type LockLeftL.the-laws t1 (v1 ∷ []) is1)) refl $ drop ! $
-        assigns ! (of-opd ! (load ! (from ! (fld ! refl (stop !))) (look-in ! 6 (sub ! 0 refl (whole !))))) (from ! (hop ! (look ! 14 refl) (stop !))) (store-raw ! 0 refl (LL.lawful HeaderT.the-type HeaderL.the-laws 𝓤 H A W .typed (t1 .header) _ (LL.owed LockLeftT.the-type LockLeftL.the-laws t1 _ is1 .0) .0)) $
-        assigns ! (of-opd ! (load ! (from ! (fld ! refl (stop !))) (look-in ! 6 (sub ! 1 refl (whole !))))) (from ! (stop !)) (init ! 16 refl (LL.lawful LockReplyT.the-type LockReplyL.the-laws 𝓤 H A W .typed (t1 .reply) _ (LL.owed LockLeftT.the-type LockLeftL.the-laws t1 _ is1 .1 .0) .0)) $
-        -- the borrow of `header` is closed
-        owned ! HeaderT.the-row (Is HeaderT.the-row) (LL.makes HeaderT.the-type HeaderL.the-plain 𝓤 H A) (t1 .header) _ (LL.owed LockLeftT.the-type LockLeftL.the-laws t1 _ is1 .0) $ move ! (1 ∷ 0 ∷ 2 ∷ 3 ∷ 4 ∷ []) $
-        closes ! tt HeaderT.the-row (t1 .header) (LL.val HeaderT.the-type HeaderL.the-laws (t1 .header) ∷ []) (header .ptr .0) (header .ptr .1) $ feqI ! (List Val) (ptr-vals header) (ptr-vals header) refl $ fjoin3 ! $
-        -- the end
-        returns ! (look ! 14 refl) $ forget ! 2 refl $ forget ! 4 refl $ forget ! 6 refl $ forget ! 8 refl $ forget ! 10 refl $ forget ! 12 refl $ forget ! 14 refl $ move ! (14 ∷ 15 ∷ []) $ free1 ! $ move ! (12 ∷ 13 ∷ []) $
-        free1 ! $ move ! (10 ∷ 11 ∷ []) $ free1 ! $ move ! (8 ∷ 9 ∷ []) $ free1 ! $ move ! (6 ∷ 7 ∷ []) $ free1 ! $ move ! (4 ∷ 5 ∷ []) $ free1 ! $ move ! (2 ∷ 3 ∷ []) $ free1 ! $ free0 ! $ nothing ! $ move ! (2 ∷ 0 ∷ []) $
-        join ! $ keep ! (0 ∷ 1 ∷ []) $ by ! (exits (t1 .reply) (LL.owed LockLeftT.the-type LockLeftL.the-laws t1 _ is1 .1 .0) (t1 .header) (e1))))))))))))))))
+        land ! (from ! (stop !)) (init ! 9 refl (LL.lawful LockLeftT.the-type LockLeftL.the-laws 𝓤 H A W .typed t1 _ is1 .0)) $
+        rewrite ! 9 (λ (u : Val). ‵ (fat fullShare LockLeftL.mir l₅ 0 u)) (ap only (LL.tells LockLeftT.the-type LockLeftL.the-laws t1 (v1 ∷ []) is1)) refl $ drop ! $
+        assigns ! (of-opd ! (load ! (from ! (fld ! refl (stop !))) (look-in ! 8 (sub ! 1 refl (whole !))))) (from ! (stop !)) (init ! 4 refl (bool-lawful 𝓤 H A W .typed (t1 .changes) _ (LL.owed LockLeftT.the-type LockLeftL.the-laws t1 _ is1 .1 .0) .0)) $
+        branch l₀ l₁ l₂ l₃ l₄ l₅ l₆ l₇ is-header t1 (subst (Is LockLeftT.the-row t1) (LL.tells LockLeftT.the-type LockLeftL.the-laws t1 (v1 ∷ []) is1) is1) e1)))))))))))))))
 
 module _ {M : Type 1} (𝓤 : URA M) (H : Heap 𝓤) (A : Atoms 𝓤) (W : Given 𝓤 H A) (mem : Memory → SProp 𝓤) (run : Routine → Fun 𝓤) where
   entry-walks : (C : Calls 𝓤 H) (Λ : Loops 𝓤 H) → FmC 𝓤 H (W .laws) C → Triple 𝓤 (C #c-header-replies·lock-reply·try-acquire-writer) (Meets-try-acquire-writer 𝓤 H A mem run) → Walks 𝓤 H A entry.ended stayed (WpFn 𝓤 H C Λ code.function) (entry.clauses 𝓤 H A mem run)

@@ -18,7 +18,7 @@ released-requires : tie.Need-released-requires
 released-requires c κs = search needs
 
 returns : tie.Need-returns
-returns c = rw (← c .before .before .before .mode-of .ensures, c .before .enum-told .given .1) (c .released .ensures (λ m p. refusal (number settings) p) (λ h z p. refl))
+returns c = rw (← c .before .before .before .mode-of .ensures, c .before .enum-told .given .1) (c .released .ensures .0 (λ m p. refusal (number settings) p) (λ h z p. refl), c .released .ensures .1)
 
 release-writer-requires : tie.Need-release-writer-requires
 release-writer-requires c κs = search needs
@@ -27,7 +27,7 @@ released-requires-2 : tie.Need-released-requires-2
 released-requires-2 c κs = search needs
 
 returns-2 : tie.Need-returns-2
-returns-2 c = rw (← c .before .before .before .before .before .mode-of .ensures, c .before .before .before .given .given .1) (c .released2 .ensures _ (c .before .release-writer .ensures))
+returns-2 c = rw (← c .before .before .before .before .before .mode-of .ensures, c .before .before .before .given .given .1) (c .released2 .ensures .0 _ (c .before .release-writer .ensures), c .released2 .ensures .1)
 
 pub release-writer-spec : {M : Type 1} → statement M
 release-writer-spec =

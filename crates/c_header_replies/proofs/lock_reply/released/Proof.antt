@@ -1,6 +1,6 @@
-use mathlib.Core.Path.{subst}
+use mathlib.Core.Path.{refl, subst, _∙_}
 use Rattle.header_locks.specs.Locks.{ReleaseCall}
-use Rattle.c_header_replies.proofs.LockReplies.{told}
+use Rattle.c_header_replies.proofs.LockReplies.{told, left-kept}
 use borrow.Author.Needs.{needs}
 use Rattle.c_header_replies.proofs.lock_reply.released.Statement.{statement}
 use Rattle.c_header_replies.proofs.lock_reply.released.Tie as tie
@@ -10,6 +10,9 @@ enum-told c = search needs
 
 with-owner-requires : tie.Need-with-owner-requires
 with-owner-requires c κs = search needs
+
+owner-changes-requires : tie.Need-owner-changes-requires
+owner-changes-requires c κs = search needs
 
 left-requires : tie.Need-left-requires
 left-requires c κs = search needs
@@ -21,10 +24,16 @@ left-requires-2 : tie.Need-left-requires-2
 left-requires-2 c κs = search needs
 
 returns : tie.Need-returns
-returns c call e = told _ call _ _ _ _ _ _ (subst (ReleaseCall _ call _) (c .before .before .enum-told .given .1) e _) (rw (c .left .ensures, c .before .with-owner .ensures))
+returns c = (
+  λ call e. told _ call _ _ _ _ _ _ _ _ (subst (ReleaseCall _ call _) (c .before .before .before .enum-told .given .1) e _) (c .before .before .with-owner .ensures) (c .left .ensures),
+  left-kept _ _ _ _ _ _ _ (c .left .ensures) (λ f. c .before .before .with-owner .ensures ∙ c .before .owner-changes .ensures .1 f),
+)
 
 returns-2 : tie.Need-returns-2
-returns-2 c call e = told _ call _ _ _ _ _ _ (subst (ReleaseCall _ call _) (c .before .before .answer .given .1) e _) (c .left2 .ensures)
+returns-2 c = (
+  λ call e. told _ call _ _ _ _ _ _ _ _ (subst (ReleaseCall _ call _) (c .before .before .answer .given .1) e _) refl (c .left2 .ensures),
+  left-kept _ _ _ _ _ _ _ (c .left2 .ensures) (λ f. refl),
+)
 
 pub released-spec : {M : Type 1} → statement M
 released-spec =
@@ -32,6 +41,7 @@ released-spec =
     (tie.spec
     enum-told
     with-owner-requires
+    owner-changes-requires
     left-requires
     enum-known-answer
     left-requires-2

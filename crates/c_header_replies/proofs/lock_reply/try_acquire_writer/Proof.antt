@@ -9,7 +9,7 @@ acquired-requires : tie.Need-acquired-requires
 acquired-requires c κs = search needs
 
 returns : tie.Need-returns
-returns c = c .acquired .ensures _ (c .before .try-acquire-writer .ensures)
+returns c = (c .acquired .ensures .0 _ (c .before .try-acquire-writer .ensures), c .acquired .ensures .1)
 
 pub try-acquire-writer-spec : {M : Type 1} → statement M
 try-acquire-writer-spec =

@@ -48,6 +48,7 @@ use denote.Triple.Walked.{says, Stays, gave-slice, stay-none, stay-none-slice, s
 use Rattle.index_record.specs.Rollback.{rollback-frames}
 use Rattle.c_index_replies.specs.IndexReply.{IndexReplied, index-left}
 use Rattle.index_end.specs.Cells.{with-cells}
+use Rattle.c_index_replies.specs.InnerKept.{CellsKept}
 use Rattle.wal_types.specs.declared.Header.{Header}
 use Rattle.wal_types.proofs.Header as HeaderT
 use Rattle.wal_types.proofs.Header.Laws as HeaderL
@@ -63,7 +64,7 @@ use Rattle.index_end.proofs.cells.IndexCells.Laws as IndexCellsL
 use Rattle.c_index_replies.specs.declared.index_reply.IndexLeft.{IndexLeft}
 use Rattle.c_index_replies.proofs.index_reply.IndexLeft as IndexLeftT
 use Rattle.c_index_replies.proofs.index_reply.IndexLeft.Laws as IndexLeftL
-use Rattle.c_index.proofs.IndexReplies.{left-told}
+use Rattle.c_index.proofs.IndexReplies.{left-told, kept-told}
 use Rattle.c_index_replies.proofs.index_reply.rollback_frames as rollback-frames-fn
 use Rattle.c_index_replies.proofs.index_reply.rollback_frames.Symbol as rollback-frames-def
 use Rattle.c_index_replies.proofs.index_reply.rollback_frames.Symbol.{name as #c-index-replies·index-reply·rollback-frames}
@@ -76,6 +77,25 @@ use Rattle.c_index.proofs.index_calls.wal_rollback_frames.Key.{name as 
 use Rattle.c_index.proofs.index_calls.wal_rollback_frames as entry
 use Rattle.c_index.proofs.index_calls.wal_rollback_frames.Statement as stated
 use Rattle.c_index.proofs.index_calls.wal_rollback_frames.Code as code
+use mathlib.Core.Path.{sym, _∙_}
+use lib.Dec.{ltb, ltb→lt, nltb→le}
+use lib.ListN.{getD, length-set}
+use mir.Syntax.{imm, mut, tyRef, tyPtr}
+use base.Fml.{froom, fdies, fobs, fbor}
+use borrow.Author.Needs.{scaled-fits}
+use types.Kit.{atRet, runs, Sq}
+use types.Run.{bin, first, branches, skips, exec, assigns-last, returns-within}
+use denote.Memory.{pointee}
+use denote.Shadow.{pureI}
+use denote.Lend.{Held}
+use denote.Slice.{sliceTy, heres, codedHoleys, at-slice}
+use denote.Index.{place-is, elem-out, elem-back, elem-put, looks-slice, shuts-slice}
+use denote.Triple.Walked.{stay-slice, goes-slice}
+use mir.Syntax.{erased}
+use base.Fml.{fobor, fauth}
+use types.SemTy.{Body}
+use denote.Memory.{cellAt, mem as in-memory}
+use Rattle.c_index.proofs.index_calls.wal_rollback_frames.Code.Mir as mir′
 
 abbrev stayed : Stays (entry.ended .signature .params) (entry.ended .kept)
 stayed = (stay-none (λ _. u32) yes, (stay-none (λ _. u32) yes, (stay-ref (0 ∷ []) tt (plain (λ _. HeaderT.the-row)), (stay-none-slice (1 ∷ []) tt (plain (λ _. u64)) yes, (stay-none-slice (2 ∷ []) tt (plain (λ _. u64)) yes, (gave-slice (3 ∷ []) tt (plain (λ _. u16)), (stay-none (λ _. u64) yes, tt)))))))
@@ -126,7 +146,7 @@ module _ {M : Type 1} (𝓤 : URA M) (H : Heap 𝓤) (A : Atoms 𝓤) (W : Given
   goes-rollback-frames = qed W ((‵ (flft κ1 q1) ⊛ ‵ (flft κ2 q2) ⊛ ‵ (flft κ3 q3) ⊛ ‵ ftrue) ∷ ‵ (owns (u32 ∷ u32 ∷ HeaderT.the-row ∷ ShrSlice (named 0) κ1 u64 ∷ ShrSlice (named 1) κ2 u64 ∷ MutSlice (named 2) κ3 u16 ∷ u64 ∷ []) (args-rollback-frames) (vals-rollback-frames)) ∷ []) ∵ join ! $ frame ! $ done !
 
   abbrev Says-rollback-frames : IndexDone → List ℕ → Type 0
-  Says-rollback-frames t1 w-hash = IndexReplied (rollback-frames capacity max-blocks max-frame) (header .now) (pages .now) (frames .now) (hash .now) (t1 .reply) (with-cells (t1 .cells) (header .now)) (pages .now) (frames .now) w-hash
+  Says-rollback-frames t1 w-hash = IndexReplied (rollback-frames capacity max-blocks max-frame) (header .now) (pages .now) (frames .now) (hash .now) (t1 .reply) (with-cells (t1 .cells) (header .now)) (pages .now) (frames .now) w-hash × CellsKept (header .now) t1
 
   -- `left`: what it is passed, and what it tells
   abbrev args-left : IndexDone → Header × (IndexDone × Unit {0})
@@ -145,22 +165,51 @@ module _ {M : Type 1} (𝓤 : URA M) (H : Heap 𝓤) (A : Atoms 𝓤) (W : Given
   Says-left t1 t2 = t2 ≡ index-left t1 (header .now)
 
   module _ (C : Calls 𝓤 H) (Λ : Loops 𝓤 H) (fm : FmC 𝓤 H (W .laws) C) (known-rollback-frames : Triple 𝓤 (C #c-index-replies·index-reply·rollback-frames) (Meets-rollback-frames 𝓤 H A mem run)) (known-left : Triple 𝓤 (C #c-index-replies·index-reply·left) (Meets-left 𝓤 H A mem run)) where
+    branch : (l₀ l₁ l₂ l₃ l₄ l₅ l₆ l₇ l₈ l₉ l₁₀ l₁₁ l₁₂ l₁₃ : ℕ) (is-header : Is HeaderT.the-row (header .now) (LL.val HeaderT.the-type HeaderL.the-laws (header .now) ∷ [])) (t1 : IndexDone) (is-t1 : Is IndexDoneT.the-row t1 (LL.val IndexDoneT.the-type IndexDoneL.the-laws t1 ∷ [])) (ws1 : Unit {0} × (Unit {0} × (Unit {0} × (Unit {0} × (Unit {0} × (List ℕ × (Unit {0} × Unit {0}))))))) (e1 : Says-rollback-frames t1 (ws1 .1 .1 .1 .1 .1 .0)) (long-hash : length (ws1 .1 .1 .1 .1 .1 .0) ≡ length (hash .now)) (t2 : IndexLeft) (is-t2 : Is IndexLeftT.the-row t2 (LL.val IndexLeftT.the-type IndexLeftL.the-laws t2 ∷ [])) (e2 : Says-left t1 t2) → Sq W (‵ (flft κ3 q3) ∷ ‵ (flft κ2 q2) ∷ ‵ (flft κ1 q1) ∷ ‵ (finally u16 (hash .name) (ws1 .1 .1 .1 .1 .1 .0)) ∷ ‵ (ShrSlice (named 2) κ2 u64 .own frames (slice-vals frames)) ∷ ‵ (ShrSlice (named 1) κ1 u64 .own pages (slice-vals pages)) ∷ ‵ (cellAt fullShare (HeaderT.the-row .mir) (LL.val HeaderT.the-type HeaderL.the-laws (header .now) ∷ []) (header .ptr .0) (header .ptr .1)) ∷ ‵ (fobor κ0 q0 (Body (in-memory HeaderT.the-row) (header .ptr .0) (header .ptr .1) (header .name))) ∷ ‵ (fobs (header .name) (HeaderT.the-row .coded .code (header .now))) ∷ ‵ (fauth (header .name) (HeaderT.the-row .coded .code (header .now))) ∷ ‵ (fat fullShare (tyBool) l₁₃ 0 (vbool (t2 .changes))) ∷ ‵ (fdies (tyBool) l₁₃) ∷ ‵ (fat fullShare (sliceTy (tyRef erased mut (tyInt w16))) l₁₂ 0 (sliceVal (hash .ptr) (length (hash .now)))) ∷ ‵ (fdies (sliceTy (tyRef erased mut (tyInt w16))) l₁₂) ∷ ‵ (fat fullShare (tyRef erased mut (tyInt w16)) l₁₁ 0 (vptr (hash .ptr .0) (hash .ptr .1))) ∷ ‵ (fdies (tyRef erased mut (tyInt w16)) l₁₁) ∷ ‵ (fat fullShare (HeaderL.mir) l₁₀ 0 (LL.val HeaderT.the-type HeaderL.the-laws (header .now))) ∷ ‵ (fdies (HeaderL.mir) l₁₀) ∷ ‵ (fat fullShare (IndexLeftL.mir) l₉ 0 (LL.val IndexLeftT.the-type IndexLeftL.the-laws t2)) ∷ ‵ (fdies (IndexLeftL.mir) l₉) ∷ ‵ (fat fullShare (IndexDoneL.mir) l₈ 0 (LL.val IndexDoneT.the-type IndexDoneL.the-laws t1)) ∷ ‵ (fdies (IndexDoneL.mir) l₈) ∷ ‵ (fat fullShare (tyInt w64) l₇ 0 (vint w64 max-frame)) ∷ ‵ (fdies (tyInt w64) l₇) ∷ ‵ (fat fullShare (sliceTy (tyRef (named 3) mut (tyInt w16))) l₆ 0 (sliceVal (hash .ptr) (length (hash .now)))) ∷ ‵ (fdies (sliceTy (tyRef (named 3) mut (tyInt w16))) l₆) ∷ ‵ (fat fullShare (sliceTy (tyRef (named 2) imm (tyInt w64))) l₅ 0 (sliceVal (frames .ptr) (length (frames .now)))) ∷ ‵ (fdies (sliceTy (tyRef (named 2) imm (tyInt w64))) l₅) ∷ ‵ (fat fullShare (sliceTy (tyRef (named 1) imm (tyInt w64))) l₄ 0 (sliceVal (pages .ptr) (length (pages .now)))) ∷ ‵ (fdies (sliceTy (tyRef (named 1) imm (tyInt w64))) l₄) ∷ ‵ (fat fullShare (tyRef (named 0) mut (pointee (HeaderT.the-row .written))) l₃ 0 (vptr (header .ptr .0) (header .ptr .1))) ∷ ‵ (fdies (tyRef (named 0) mut (pointee (HeaderT.the-row .written))) l₃) ∷ ‵ (fat fullShare (tyInt w32) l₂ 0 (vint w32 max-blocks)) ∷ ‵ (fdies (tyInt w32) l₂) ∷ ‵ (fat fullShare (tyInt w32) l₁ 0 (vint w32 capacity)) ∷ ‵ (fdies (tyInt w32) l₁) ∷ ‵ (froom (IndexReplyL.mir) l₀ 0) ∷ ‵ (fdies (IndexReplyL.mir) l₀) ∷ []) (runs C Λ ((IndexReplyL.mir, l₀) ∷ (tyInt w32, l₁) ∷ (tyInt w32, l₂) ∷ (tyRef (named 0) mut (pointee (HeaderT.the-row .written)), l₃) ∷ (sliceTy (tyRef (named 1) imm (tyInt w64)), l₄) ∷ (sliceTy (tyRef (named 2) imm (tyInt w64)), l₅) ∷ (sliceTy (tyRef (named 3) mut (tyInt w16)), l₆) ∷ (tyInt w64, l₇) ∷ (IndexDoneL.mir, l₈) ∷ (IndexLeftL.mir, l₉) ∷ (HeaderL.mir, l₁₀) ∷ (tyRef erased mut (tyInt w16), l₁₁) ∷ (sliceTy (tyRef erased mut (tyInt w16)), l₁₂) ∷ (tyBool, l₁₃) ∷ []) mir′.t-8 (atRet ((IndexReplyL.mir, l₀) ∷ (tyInt w32, l₁) ∷ (tyInt w32, l₂) ∷ (tyRef (named 0) mut (pointee (HeaderT.the-row .written)), l₃) ∷ (sliceTy (tyRef (named 1) imm (tyInt w64)), l₄) ∷ (sliceTy (tyRef (named 2) imm (tyInt w64)), l₅) ∷ (sliceTy (tyRef (named 3) mut (tyInt w16)), l₆) ∷ (tyInt w64, l₇) ∷ (IndexDoneL.mir, l₈) ∷ (IndexLeftL.mir, l₉) ∷ (HeaderL.mir, l₁₀) ∷ (tyRef erased mut (tyInt w16), l₁₁) ∷ (sliceTy (tyRef erased mut (tyInt w16)), l₁₂) ∷ (tyBool, l₁₃) ∷ []) Post))
+    branch l₀ l₁ l₂ l₃ l₄ l₅ l₆ l₇ l₈ l₉ l₁₀ l₁₁ l₁₂ l₁₃ is-header t1 is-t1 ws1 e1 long-hash t2 is-t2 e2 =
+        first ! $ branches ! (load ! (from ! (stop !)) (look ! 10 refl)) (λ holds.
+        assigns-last ! (of-opd ! (load ! (from ! (fld ! refl (stop !))) (look-in ! 18 (sub ! 0 refl (whole !))))) (from ! (hop ! (look ! 30 refl) (stop !))) (store-raw ! 6 refl (LL.lawful HeaderT.the-type HeaderL.the-laws 𝓤 H A W .typed (t2 .header) _ (LL.owed IndexLeftT.the-type IndexLeftL.the-laws t2 _ is-t2 .0) .0)) $ exec ! C Λ ((IndexReplyL.mir, l₀) ∷ (tyInt w32, l₁) ∷ (tyInt w32, l₂) ∷ (tyRef (named 0) mut (pointee (HeaderT.the-row .written)), l₃) ∷ (sliceTy (tyRef (named 1) imm (tyInt w64)), l₄) ∷ (sliceTy (tyRef (named 2) imm (tyInt w64)), l₅) ∷ (sliceTy (tyRef (named 3) mut (tyInt w16)), l₆) ∷ (tyInt w64, l₇) ∷ (IndexDoneL.mir, l₈) ∷ (IndexLeftL.mir, l₉) ∷ (HeaderL.mir, l₁₀) ∷ (tyRef erased mut (tyInt w16), l₁₁) ∷ (sliceTy (tyRef erased mut (tyInt w16)), l₁₂) ∷ (tyBool, l₁₃) ∷ []) mir′.t-9 (atRet ((IndexReplyL.mir, l₀) ∷ (tyInt w32, l₁) ∷ (tyInt w32, l₂) ∷ (tyRef (named 0) mut (pointee (HeaderT.the-row .written)), l₃) ∷ (sliceTy (tyRef (named 1) imm (tyInt w64)), l₄) ∷ (sliceTy (tyRef (named 2) imm (tyInt w64)), l₅) ∷ (sliceTy (tyRef (named 3) mut (tyInt w16)), l₆) ∷ (tyInt w64, l₇) ∷ (IndexDoneL.mir, l₈) ∷ (IndexLeftL.mir, l₉) ∷ (HeaderL.mir, l₁₀) ∷ (tyRef erased mut (tyInt w16), l₁₁) ∷ (sliceTy (tyRef erased mut (tyInt w16)), l₁₂) ∷ (tyBool, l₁₃) ∷ []) Post) $
+        assigns ! (of-opd ! (load ! (from ! (fld ! refl (stop !))) (look-in ! 18 (sub ! 2 refl (whole !))))) (from ! (stop !)) (init ! 36 refl (LL.lawful IndexReplyT.the-type IndexReplyL.the-laws 𝓤 H A W .typed (t2 .reply) _ (LL.owed IndexLeftT.the-type IndexLeftL.the-laws t2 _ is-t2 .1 .1 .0) .0)) $
+        -- the borrow of `header` is closed
+        owned ! HeaderT.the-row (Is HeaderT.the-row) (LL.makes HeaderT.the-type HeaderL.the-plain 𝓤 H A) (t2 .header) _ (LL.owed IndexLeftT.the-type IndexLeftL.the-laws t2 _ is-t2 .0) $ move ! (7 ∷ 0 ∷ 8 ∷ 9 ∷ 10 ∷ []) $
+        closes ! tt HeaderT.the-row (t2 .header) (LL.val HeaderT.the-type HeaderL.the-laws (t2 .header) ∷ []) (header .ptr .0) (header .ptr .1) $ feqI ! (List Val) (ptr-vals header) (ptr-vals header) refl $ fjoin3 ! $
+        -- the end
+        returns ! (look ! 34 refl) $ forget ! 8 refl $ forget ! 10 refl $ forget ! 12 refl $ forget ! 14 refl $ forget ! 16 refl $ forget ! 18 refl $ forget ! 20 refl $ forget ! 22 refl $ forget ! 24 refl $ forget ! 26 refl $
+        forget ! 28 refl $ forget ! 30 refl $ forget ! 32 refl $ forget ! 34 refl $ move ! (34 ∷ 35 ∷ []) $ free1 ! $ move ! (32 ∷ 33 ∷ []) $ free1 ! $ move ! (30 ∷ 31 ∷ []) $ free1 ! $ move ! (28 ∷ 29 ∷ []) $ free1 ! $
+        move ! (26 ∷ 27 ∷ []) $ free1 ! $ move ! (24 ∷ 25 ∷ []) $ free1 ! $ move ! (22 ∷ 23 ∷ []) $ free1 ! $ move ! (20 ∷ 21 ∷ []) $ free1 ! $ move ! (18 ∷ 19 ∷ []) $ free1 ! $ move ! (16 ∷ 17 ∷ []) $ free1 ! $
+        move ! (14 ∷ 15 ∷ []) $ free1 ! $ move ! (12 ∷ 13 ∷ []) $ free1 ! $ move ! (10 ∷ 11 ∷ []) $ free1 ! $ move ! (8 ∷ 9 ∷ []) $ free1 ! $ free0 ! $ nothing ! $ move ! (3 ∷ 0 ∷ []) $ join ! $ move ! (3 ∷ 0 ∷ []) $ join ! $
+        move ! (3 ∷ 0 ∷ []) $ join ! $ move ! (2 ∷ 0 ∷ []) $ join ! $ keep ! (0 ∷ 1 ∷ 4 ∷ 3 ∷ 2 ∷ []) $
+        by ! (exits (t2 .reply) (LL.owed IndexLeftT.the-type IndexLeftL.the-laws t2 _ is-t2 .1 .1 .0) (t2 .header) (ws1 .1 .1 .1 .1 .1 .0) (left-told (rollback-frames capacity max-blocks max-frame) _ _ _ _ t1 _ _ _ _ e1 e2) long-hash))
+        -- the other way
+        (λ fails. skips ! $ exec ! C Λ ((IndexReplyL.mir, l₀) ∷ (tyInt w32, l₁) ∷ (tyInt w32, l₂) ∷ (tyRef (named 0) mut (pointee (HeaderT.the-row .written)), l₃) ∷ (sliceTy (tyRef (named 1) imm (tyInt w64)), l₄) ∷ (sliceTy (tyRef (named 2) imm (tyInt w64)), l₅) ∷ (sliceTy (tyRef (named 3) mut (tyInt w16)), l₆) ∷ (tyInt w64, l₇) ∷ (IndexDoneL.mir, l₈) ∷ (IndexLeftL.mir, l₉) ∷ (HeaderL.mir, l₁₀) ∷ (tyRef erased mut (tyInt w16), l₁₁) ∷ (sliceTy (tyRef erased mut (tyInt w16)), l₁₂) ∷ (tyBool, l₁₃) ∷ []) mir′.t-9 (atRet ((IndexReplyL.mir, l₀) ∷ (tyInt w32, l₁) ∷ (tyInt w32, l₂) ∷ (tyRef (named 0) mut (pointee (HeaderT.the-row .written)), l₃) ∷ (sliceTy (tyRef (named 1) imm (tyInt w64)), l₄) ∷ (sliceTy (tyRef (named 2) imm (tyInt w64)), l₅) ∷ (sliceTy (tyRef (named 3) mut (tyInt w16)), l₆) ∷ (tyInt w64, l₇) ∷ (IndexDoneL.mir, l₈) ∷ (IndexLeftL.mir, l₉) ∷ (HeaderL.mir, l₁₀) ∷ (tyRef erased mut (tyInt w16), l₁₁) ∷ (sliceTy (tyRef erased mut (tyInt w16)), l₁₂) ∷ (tyBool, l₁₃) ∷ []) Post) $
+        assigns ! (of-opd ! (load ! (from ! (fld ! refl (stop !))) (look-in ! 18 (sub ! 2 refl (whole !))))) (from ! (stop !)) (init ! 36 refl (LL.lawful IndexReplyT.the-type IndexReplyL.the-laws 𝓤 H A W .typed (t2 .reply) _ (LL.owed IndexLeftT.the-type IndexLeftL.the-laws t2 _ is-t2 .1 .1 .0) .0)) $
+        -- the borrow of `header` is closed
+        owned ! HeaderT.the-row (Is HeaderT.the-row) (LL.makes HeaderT.the-type HeaderL.the-plain 𝓤 H A) (header .now) _ is-header $ move ! (7 ∷ 0 ∷ 8 ∷ 9 ∷ 10 ∷ []) $
+        closes ! tt HeaderT.the-row (header .now) (LL.val HeaderT.the-type HeaderL.the-laws (header .now) ∷ []) (header .ptr .0) (header .ptr .1) $ feqI ! (List Val) (ptr-vals header) (ptr-vals header) refl $ fjoin3 ! $
+        -- the end
+        returns ! (look ! 34 refl) $ forget ! 8 refl $ forget ! 10 refl $ forget ! 12 refl $ forget ! 14 refl $ forget ! 16 refl $ forget ! 18 refl $ forget ! 20 refl $ forget ! 22 refl $ forget ! 24 refl $ forget ! 26 refl $
+        forget ! 28 refl $ forget ! 30 refl $ forget ! 32 refl $ forget ! 34 refl $ move ! (34 ∷ 35 ∷ []) $ free1 ! $ move ! (32 ∷ 33 ∷ []) $ free1 ! $ move ! (30 ∷ 31 ∷ []) $ free1 ! $ move ! (28 ∷ 29 ∷ []) $ free1 ! $
+        move ! (26 ∷ 27 ∷ []) $ free1 ! $ move ! (24 ∷ 25 ∷ []) $ free1 ! $ move ! (22 ∷ 23 ∷ []) $ free1 ! $ move ! (20 ∷ 21 ∷ []) $ free1 ! $ move ! (18 ∷ 19 ∷ []) $ free1 ! $ move ! (16 ∷ 17 ∷ []) $ free1 ! $
+        move ! (14 ∷ 15 ∷ []) $ free1 ! $ move ! (12 ∷ 13 ∷ []) $ free1 ! $ move ! (10 ∷ 11 ∷ []) $ free1 ! $ move ! (8 ∷ 9 ∷ []) $ free1 ! $ free0 ! $ nothing ! $ move ! (3 ∷ 0 ∷ []) $ join ! $ move ! (3 ∷ 0 ∷ []) $ join ! $
+        move ! (3 ∷ 0 ∷ []) $ join ! $ move ! (2 ∷ 0 ∷ []) $ join ! $ keep ! (0 ∷ 1 ∷ 4 ∷ 3 ∷ 2 ∷ []) $
+        by ! (exits (t2 .reply) (LL.owed IndexLeftT.the-type IndexLeftL.the-laws t2 _ is-t2 .1 .1 .0) (header .now) (ws1 .1 .1 .1 .1 .1 .0) (kept-told (rollback-frames capacity max-blocks max-frame) _ _ _ _ t1 _ _ _ _ e1 e2 fails) long-hash))
+
     walk : ent 𝓤 (onEntry 𝓤 H A entry.signature (κ0, (κ1, (κ2, (κ3, tt)))) (q0, (q1, (q2, (q3, tt)))) passed at) (WpFn 𝓤 H C Λ code.function flat Post)
     walk =
         qed W ((‵ (flft κ0 q0) ⊛ ‵ (flft κ1 q1) ⊛ ‵ (flft κ2 q2) ⊛ ‵ (flft κ3 q3) ⊛ ‵ ftrue) ∷ ‵ (owns (u32 ∷ u32 ∷ MutRef (named 0) κ0 HeaderT.the-row ∷ ShrSlice (named 1) κ1 u64 ∷ ShrSlice (named 2) κ2 u64 ∷ MutSlice (named 3) κ3 u16 ∷ u64 ∷ []) passed at) ∷ []) ∵ enter ! C Λ code.function flat _ $
         alloc1 ! (λ l₀. alloc1 ! (λ l₁. alloc1 ! (λ l₂. alloc1 ! (λ l₃. alloc1 ! (λ l₄. alloc1 ! (λ l₅. alloc1 ! (λ l₆. alloc1 ! (λ l₇. alloc1 ! (λ l₈. alloc1 ! (λ l₉. alloc1 ! (λ l₁₀. alloc1 ! (λ l₁₁. alloc1 ! (λ l₁₂.
-        alloc0 ! $ params1 ! $ pass1 ! (init ! 22 refl (tt, record { fits = fits-capacity })) $ pass1 ! (init ! 20 refl (tt, record { fits = fits-max-blocks })) $ pass1 ! (init ! 18 refl (tt, tt)) $
-        pass1 ! (init ! 16 refl (tt, (tt, (record { fits = room-pages .0 }, tt)))) $ pass1 ! (init ! 14 refl (tt, (tt, (record { fits = room-frames .0 }, tt)))) $
-        pass1 ! (init ! 12 refl (tt, (tt, (record { fits = room-hash .0 }, tt)))) $ pass1 ! (init ! 10 refl (tt, record { fits = fits-max-frame })) $ pass0 ! $ move ! (27 ∷ []) $ fsplit ! $ drop ! $ fsplit ! $ drop ! $
-        fsplit ! $ move ! (1 ∷ []) $ fsplit ! $ move ! (1 ∷ []) $ fsplit ! $ move ! (1 ∷ []) $ fsplit ! $ move ! (1 ∷ []) $ fsplit ! $ drop ! $ drop ! $ move ! (30 ∷ []) $ split ! $ move ! (1 ∷ []) $ split ! $ move ! (1 ∷ []) $
+        alloc1 ! (λ l₁₃. alloc0 ! $ params1 ! $ pass1 ! (init ! 24 refl (tt, record { fits = fits-capacity })) $ pass1 ! (init ! 22 refl (tt, record { fits = fits-max-blocks })) $ pass1 ! (init ! 20 refl (tt, tt)) $
+        pass1 ! (init ! 18 refl (tt, (tt, (record { fits = room-pages .0 }, tt)))) $ pass1 ! (init ! 16 refl (tt, (tt, (record { fits = room-frames .0 }, tt)))) $
+        pass1 ! (init ! 14 refl (tt, (tt, (record { fits = room-hash .0 }, tt)))) $ pass1 ! (init ! 12 refl (tt, record { fits = fits-max-frame })) $ pass0 ! $ move ! (29 ∷ []) $ fsplit ! $ drop ! $ fsplit ! $ drop ! $
+        fsplit ! $ move ! (1 ∷ []) $ fsplit ! $ move ! (1 ∷ []) $ fsplit ! $ move ! (1 ∷ []) $ fsplit ! $ move ! (1 ∷ []) $ fsplit ! $ drop ! $ drop ! $ move ! (32 ∷ []) $ split ! $ move ! (1 ∷ []) $ split ! $ move ! (1 ∷ []) $
         split ! $ move ! (1 ∷ []) $ split ! $ move ! (1 ∷ []) $ drop ! $
         -- the borrow of `header` is opened
         move ! (7 ∷ []) $ fsplit3 ! $ drop ! $ move ! (0 ∷ 1 ∷ 5 ∷ []) $ opens ! tt HeaderT.the-row {h = (header .now)} (header .ptr .0) (header .ptr .1) (λ vs-header.
         spelt ! HeaderT.the-row (Is HeaderT.the-row) (shows 𝓤 H A HeaderT.the-row) (LL.vals HeaderT.the-type HeaderL.the-laws) (LL.tells HeaderT.the-type HeaderL.the-laws) fullShare (header .now) vs-header (header .ptr .0) (header .ptr .1) $
         move ! (1 ∷ []) $ peeks ! HeaderT.the-row (Is HeaderT.the-row) (shows 𝓤 H A HeaderT.the-row) (header .now) (LL.val HeaderT.the-type HeaderL.the-laws (header .now) ∷ []) (λ is-header. drop ! $
-        assigns ! (of-opd ! (load ! (from ! (hop ! (look ! 28 refl) (stop !))) (look-raw ! 0 refl))) (from ! (stop !)) (init ! 14 refl (LL.lawful HeaderT.the-type HeaderL.the-laws 𝓤 H A W .typed (header .now) _ is-header .0)) $
-        assigns ! (addr ! (from ! (fld ! refl (hop ! (look-in ! 22 (sub ! 0 refl (whole !))) (stop !))))) (from ! (stop !)) (init ! 12 refl (tt, tt)) $
-        assigns ! (agg ! (and-then ! (load ! (from ! (stop !)) (look ! 12 refl)) (and-then ! (load ! (from ! (fld ! refl (stop !))) (look-in ! 22 (sub ! 1 refl (whole !)))) (no-more !)))) (from ! (stop !)) (init ! 10 refl (tt, (tt, (record { fits = room-hash .0 }, tt)))) $
+        assigns ! (of-opd ! (load ! (from ! (hop ! (look ! 30 refl) (stop !))) (look-raw ! 0 refl))) (from ! (stop !)) (init ! 16 refl (LL.lawful HeaderT.the-type HeaderL.the-laws 𝓤 H A W .typed (header .now) _ is-header .0)) $
+        assigns ! (addr ! (from ! (fld ! refl (hop ! (look-in ! 24 (sub ! 0 refl (whole !))) (stop !))))) (from ! (stop !)) (init ! 14 refl (tt, tt)) $
+        assigns ! (agg ! (and-then ! (load ! (from ! (stop !)) (look ! 14 refl)) (and-then ! (load ! (from ! (fld ! refl (stop !))) (look-in ! 24 (sub ! 1 refl (whole !)))) (no-more !)))) (from ! (stop !)) (init ! 12 refl (tt, (tt, (record { fits = room-hash .0 }, tt)))) $
         -- `rollback_frames`
         move ! (9 ∷ []) $
         use1 W (‵ (ShrSlice (named 1) κ1 u64 .own pages (slice-vals pages)) ⊛ ‵ (ShrSlice (named 1) κ1 u64 .own pages (slice-vals pages))) (shr-slice-copy 𝓤 H A W (named 1) κ1 u64 .twice pages (slice-vals pages)) $ split ! $
@@ -170,39 +219,29 @@ module _ {M : Type 1} (𝓤 : URA M) (H : Heap 𝓤) (A : Atoms 𝓤) (W : Given
         owned ! HeaderT.the-row (Is HeaderT.the-row) (LL.makes HeaderT.the-type HeaderL.the-plain 𝓤 H A) (header .now) _ is-header $ fjoin ! $ owned ! u32 (Is u32) (uint-makes 𝓤 H A W w32) max-blocks _ (refl, fits-max-blocks) $
         fjoin ! $ owned ! u32 (Is u32) (uint-makes 𝓤 H A W w32) capacity _ (refl, fits-capacity) $ fjoin ! $ nothing ! $ move ! (8 ∷ 0 ∷ []) $ join ! $ move ! (8 ∷ 0 ∷ []) $ join ! $ move ! (8 ∷ 0 ∷ []) $ join ! $
         use2 W (raw (Meets-rollback-frames 𝓤 H A mem run .pre to-rollback-frames)) goes-rollback-frames $
-        calls-at ! fm (Meets-rollback-frames 𝓤 H A mem run) known-rollback-frames to-rollback-frames (and-then ! (load ! (from ! (stop !)) (look ! 29 refl)) (and-then ! (load ! (from ! (stop !)) (look ! 27 refl)) (and-then ! (load ! (from ! (stop !)) (look ! 11 refl)) (and-then ! (load ! (from ! (stop !)) (look ! 23 refl)) (and-then ! (load ! (from ! (stop !)) (look ! 21 refl)) (and-then ! (load ! (from ! (stop !)) (look ! 7 refl)) (and-then ! (load ! (from ! (stop !)) (look ! 17 refl)) (no-more !)))))))) (λ v1.
+        calls-at ! fm (Meets-rollback-frames 𝓤 H A mem run) known-rollback-frames to-rollback-frames (and-then ! (load ! (from ! (stop !)) (look ! 31 refl)) (and-then ! (load ! (from ! (stop !)) (look ! 29 refl)) (and-then ! (load ! (from ! (stop !)) (look ! 13 refl)) (and-then ! (load ! (from ! (stop !)) (look ! 25 refl)) (and-then ! (load ! (from ! (stop !)) (look ! 23 refl)) (and-then ! (load ! (from ! (stop !)) (look ! 9 refl)) (and-then ! (load ! (from ! (stop !)) (look ! 19 refl)) (no-more !)))))))) (λ v1.
         use1 W (later (some (λ (t1 : IndexDone). ((‵ (flft κ1 q1) ⊛ ‵ (flft κ2 q2) ⊛ ‵ (flft κ3 q3) ⊛ ‵ ftrue) ⊛ ‵ (IndexDoneT.the-row .own t1 (v1 ∷ []))) ⊛ raw (ensured 𝓤 H A rollback-frames-fn.ended (rollback-frames-fn.clauses 𝓤 H A mem run) (κ1, (κ2, (κ3, tt))) (args-rollback-frames) tt t1)))) (id⊢ 𝓤 _) $ await ! tt $ pick ! (λ t1.
         split ! $ move ! (1 ∷ []) $
         use1 W (some (λ (ws1 : Unit {0} × (Unit {0} × (Unit {0} × (Unit {0} × (Unit {0} × (List ℕ × (Unit {0} × Unit {0}))))))). ‵ (lasts rollback-frames-fn.ended (κ1, (κ2, (κ3, tt))) (args-rollback-frames) ws1) ⊛ raw (fact 𝓤 (Says-rollback-frames t1 (ws1 .1 .1 .1 .1 .1 .0))))) (id⊢ 𝓤 _) $ pick ! (λ ws1.
         split ! $ move ! (1 ∷ []) $ heard ! (Says-rollback-frames t1 (ws1 .1 .1 .1 .1 .1 .0)) (λ e1. fsplit ! $ drop ! $ fsplit ! $ drop ! $ fsplit ! $ drop ! $ fsplit ! $ drop ! $ fsplit ! $ drop ! $ fsplit ! $ fsplit ! $
         move ! (1 ∷ []) $ feqL ! (λ long-hash. move ! (1 ∷ []) $ drop ! $ move ! (1 ∷ []) $ split ! $ move ! (1 ∷ []) $ peeks ! IndexDoneT.the-row (Is IndexDoneT.the-row) (shows 𝓤 H A IndexDoneT.the-row) t1 (v1 ∷ []) (λ is1.
-        drop ! $ land ! (from ! (stop !)) (init ! 16 refl (LL.lawful IndexDoneT.the-type IndexDoneL.the-laws 𝓤 H A W .typed t1 _ is1 .0)) $
-        rewrite ! 16 (λ (u : Val). ‵ (fat fullShare IndexDoneL.mir l₈ 0 u)) (ap only (LL.tells IndexDoneT.the-type IndexDoneL.the-laws t1 (v1 ∷ []) is1)) refl $ split ! $ move ! (1 ∷ []) $ split ! $ move ! (1 ∷ []) $ split ! $
+        drop ! $ land ! (from ! (stop !)) (init ! 18 refl (LL.lawful IndexDoneT.the-type IndexDoneL.the-laws 𝓤 H A W .typed t1 _ is1 .0)) $
+        rewrite ! 18 (λ (u : Val). ‵ (fat fullShare IndexDoneL.mir l₈ 0 u)) (ap only (LL.tells IndexDoneT.the-type IndexDoneL.the-laws t1 (v1 ∷ []) is1)) refl $ split ! $ move ! (1 ∷ []) $ split ! $ move ! (1 ∷ []) $ split ! $
         move ! (1 ∷ []) $ drop ! $
-        assigns ! (of-opd ! (load ! (from ! (hop ! (look ! 28 refl) (stop !))) (look-raw ! 6 refl))) (from ! (stop !)) (store ! 14 refl (LL.lawful HeaderT.the-type HeaderL.the-laws 𝓤 H A W .typed (header .now) _ is-header .0)) $
+        assigns ! (of-opd ! (load ! (from ! (hop ! (look ! 30 refl) (stop !))) (look-raw ! 6 refl))) (from ! (stop !)) (store ! 16 refl (LL.lawful HeaderT.the-type HeaderL.the-laws 𝓤 H A W .typed (header .now) _ is-header .0)) $
         -- `left`
         nothing ! $
         owned ! IndexDoneT.the-row (Is IndexDoneT.the-row) (LL.makes IndexDoneT.the-type IndexDoneL.the-plain 𝓤 H A) t1 _ (subst (Is IndexDoneT.the-row t1) (LL.tells IndexDoneT.the-type IndexDoneL.the-laws t1 (v1 ∷ []) is1) is1) $
         fjoin ! $ owned ! HeaderT.the-row (Is HeaderT.the-row) (LL.makes HeaderT.the-type HeaderL.the-plain 𝓤 H A) (header .now) _ is-header $ fjoin ! $ nothing ! $
         use2 W (raw (Meets-left 𝓤 H A mem run .pre (to-left t1))) (goes-left t1) $
-        calls-at ! fm (Meets-left 𝓤 H A mem run) known-left (to-left t1) (and-then ! (load ! (from ! (stop !)) (look ! 15 refl)) (and-then ! (load ! (from ! (stop !)) (look ! 19 refl)) (no-more !))) (λ v2.
+        calls-at ! fm (Meets-left 𝓤 H A mem run) known-left (to-left t1) (and-then ! (load ! (from ! (stop !)) (look ! 17 refl)) (and-then ! (load ! (from ! (stop !)) (look ! 21 refl)) (no-more !))) (λ v2.
         use1 W (later (some (λ (t2 : IndexLeft). (‵ ftrue ⊛ ‵ (IndexLeftT.the-row .own t2 (v2 ∷ []))) ⊛ raw (ensured 𝓤 H A left-fn.ended (left-fn.clauses 𝓤 H A mem run) tt (args-left t1) tt t2)))) (id⊢ 𝓤 _) $ await ! tt $ pick ! (λ t2.
         split ! $ move ! (1 ∷ []) $ use1 W (some (λ (ws2 : Unit {0} × (Unit {0} × Unit {0})). ‵ (lasts left-fn.ended tt (args-left t1) ws2) ⊛ raw (fact 𝓤 (Says-left t1 t2)))) (id⊢ 𝓤 _) $ pick ! (λ ws2. split ! $
         move ! (1 ∷ []) $ heard ! (Says-left t1 t2) (λ e2. drop ! $ split ! $ move ! (1 ∷ []) $ peeks ! IndexLeftT.the-row (Is IndexLeftT.the-row) (shows 𝓤 H A IndexLeftT.the-row) t2 (v2 ∷ []) (λ is2. drop ! $
-        land ! (from ! (stop !)) (init ! 17 refl (LL.lawful IndexLeftT.the-type IndexLeftL.the-laws 𝓤 H A W .typed t2 _ is2 .0)) $
-        rewrite ! 17 (λ (u : Val). ‵ (fat fullShare IndexLeftL.mir l₉ 0 u)) (ap only (LL.tells IndexLeftT.the-type IndexLeftL.the-laws t2 (v2 ∷ []) is2)) refl $ drop ! $
-        assigns ! (of-opd ! (load ! (from ! (fld ! refl (stop !))) (look-in ! 16 (sub ! 0 refl (whole !))))) (from ! (hop ! (look ! 28 refl) (stop !))) (store-raw ! 6 refl (LL.lawful HeaderT.the-type HeaderL.the-laws 𝓤 H A W .typed (t2 .header) _ (LL.owed IndexLeftT.the-type IndexLeftL.the-laws t2 _ is2 .0) .0)) $
-        assigns ! (of-opd ! (load ! (from ! (fld ! refl (stop !))) (look-in ! 16 (sub ! 1 refl (whole !))))) (from ! (stop !)) (init ! 34 refl (LL.lawful IndexReplyT.the-type IndexReplyL.the-laws 𝓤 H A W .typed (t2 .reply) _ (LL.owed IndexLeftT.the-type IndexLeftL.the-laws t2 _ is2 .1 .0) .0)) $
-        -- the borrow of `header` is closed
-        owned ! HeaderT.the-row (Is HeaderT.the-row) (LL.makes HeaderT.the-type HeaderL.the-plain 𝓤 H A) (t2 .header) _ (LL.owed IndexLeftT.the-type IndexLeftL.the-laws t2 _ is2 .0) $ move ! (7 ∷ 0 ∷ 8 ∷ 9 ∷ 10 ∷ []) $
-        closes ! tt HeaderT.the-row (t2 .header) (LL.val HeaderT.the-type HeaderL.the-laws (t2 .header) ∷ []) (header .ptr .0) (header .ptr .1) $ feqI ! (List Val) (ptr-vals header) (ptr-vals header) refl $ fjoin3 ! $
-        -- the end
-        returns ! (look ! 32 refl) $ forget ! 8 refl $ forget ! 10 refl $ forget ! 12 refl $ forget ! 14 refl $ forget ! 16 refl $ forget ! 18 refl $ forget ! 20 refl $ forget ! 22 refl $ forget ! 24 refl $ forget ! 26 refl $
-        forget ! 28 refl $ forget ! 30 refl $ forget ! 32 refl $ move ! (32 ∷ 33 ∷ []) $ free1 ! $ move ! (30 ∷ 31 ∷ []) $ free1 ! $ move ! (28 ∷ 29 ∷ []) $ free1 ! $ move ! (26 ∷ 27 ∷ []) $ free1 ! $ move ! (24 ∷ 25 ∷ []) $
-        free1 ! $ move ! (22 ∷ 23 ∷ []) $ free1 ! $ move ! (20 ∷ 21 ∷ []) $ free1 ! $ move ! (18 ∷ 19 ∷ []) $ free1 ! $ move ! (16 ∷ 17 ∷ []) $ free1 ! $ move ! (14 ∷ 15 ∷ []) $ free1 ! $ move ! (12 ∷ 13 ∷ []) $ free1 ! $
-        move ! (10 ∷ 11 ∷ []) $ free1 ! $ move ! (8 ∷ 9 ∷ []) $ free1 ! $ free0 ! $ nothing ! $ move ! (3 ∷ 0 ∷ []) $ join ! $ move ! (3 ∷ 0 ∷ []) $ join ! $ move ! (3 ∷ 0 ∷ []) $ join ! $ move ! (2 ∷ 0 ∷ []) $ join ! $
-        keep ! (0 ∷ 1 ∷ 4 ∷ 3 ∷ 2 ∷ []) $
-        by ! (exits (t2 .reply) (LL.owed IndexLeftT.the-type IndexLeftL.the-laws t2 _ is2 .1 .0) (t2 .header) (ws1 .1 .1 .1 .1 .1 .0) (left-told (rollback-frames capacity max-blocks max-frame) _ _ _ _ t1 _ _ _ _ e1 e2) long-hash)))))))))))))))))))))))))))
+        land ! (from ! (stop !)) (init ! 19 refl (LL.lawful IndexLeftT.the-type IndexLeftL.the-laws 𝓤 H A W .typed t2 _ is2 .0)) $
+        rewrite ! 19 (λ (u : Val). ‵ (fat fullShare IndexLeftL.mir l₉ 0 u)) (ap only (LL.tells IndexLeftT.the-type IndexLeftL.the-laws t2 (v2 ∷ []) is2)) refl $ drop ! $
+        assigns ! (of-opd ! (load ! (from ! (fld ! refl (stop !))) (look-in ! 18 (sub ! 1 refl (whole !))))) (from ! (stop !)) (init ! 10 refl (bool-lawful 𝓤 H A W .typed (t2 .changes) _ (LL.owed IndexLeftT.the-type IndexLeftL.the-laws t2 _ is2 .1 .0) .0)) $
+        branch l₀ l₁ l₂ l₃ l₄ l₅ l₆ l₇ l₈ l₉ l₁₀ l₁₁ l₁₂ l₁₃ is-header t1 (subst (Is IndexDoneT.the-row t1) (LL.tells IndexDoneT.the-type IndexDoneL.the-laws t1 (v1 ∷ []) is1) is1) ws1 e1 long-hash t2 (subst (Is IndexLeftT.the-row t2) (LL.tells IndexLeftT.the-type IndexLeftL.the-laws t2 (v2 ∷ []) is2) is2) e2)))))))))))))))))))))))))))
 
 module _ {M : Type 1} (𝓤 : URA M) (H : Heap 𝓤) (A : Atoms 𝓤) (W : Given 𝓤 H A) (mem : Memory → SProp 𝓤) (run : Routine → Fun 𝓤) where
   entry-walks : (C : Calls 𝓤 H) (Λ : Loops 𝓤 H) → FmC 𝓤 H (W .laws) C → Triple 𝓤 (C #c-index-replies·index-reply·rollback-frames) (Meets-rollback-frames 𝓤 H A mem run) → Triple 𝓤 (C #c-index-replies·index-reply·left) (Meets-left 𝓤 H A mem run) → Walks 𝓤 H A entry.ended stayed (WpFn 𝓤 H C Λ code.function) (entry.clauses 𝓤 H A mem run)

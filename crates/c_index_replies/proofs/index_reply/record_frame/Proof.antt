@@ -12,6 +12,9 @@ record-frame-requires c κs = search needs
 record-reply-requires : tie.Need-record-reply-requires
 record-reply-requires c κs = search needs
 
+record-changes-requires : tie.Need-record-changes-requires
+record-changes-requires c κs = search needs
+
 same-length : tie.Need-same-length
 same-length c = search needs
 
@@ -23,8 +26,8 @@ same-length-3 c = search needs
 
 returns : tie.Need-returns
 returns c =
-    let a = c .before .before .before .before .before .before .before .before .before .before .before .before .before .before .before .args in
-    told (record-frame (a .capacity) (a .max-blocks) (a .page-id) (a .frame-id) (not (eqb (a .grow) 0))) _ _ _ _ _ _ _ _ _ _ (c .before .before .before .before .before .before .before .before .record-frame .ensures) (c .record-reply .ensures)
+    let a = c .before .before .before .before .before .before .before .before .before .before .before .before .before .before .before .before .args in
+    (told (record-frame (a .capacity) (a .max-blocks) (a .page-id) (a .frame-id) (not (eqb (a .grow) 0))) _ _ _ _ _ _ _ _ _ _ (c .before .before .before .before .before .before .before .before .before .record-frame .ensures) (c .before .record-reply .ensures), c .record-changes .ensures)
 
 pub record-frame-spec : {M : Type 1} → statement M
 record-frame-spec =
@@ -32,6 +35,7 @@ record-frame-spec =
     (tie.spec
     record-frame-requires
     record-reply-requires
+    record-changes-requires
     same-length
     same-length-2
     same-length-3

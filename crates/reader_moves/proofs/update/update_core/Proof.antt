@@ -1,4 +1,4 @@
-use Rattle.reader_moves.proofs.Released.{move-reader, move-shared, move-done}
+use Rattle.reader_moves.proofs.Released.{move-reader, move-shared, move-done, move-stays}
 use Rattle.reader_moves.specs.Update.{update-reader}
 use borrow.Author.Tests.{ne-eqb, le-leb, lt-leb, lt-ltb, le-ltb}
 use borrow.Author.Needs.{needs}
@@ -48,6 +48,15 @@ returns-8 c = move-reader _ _ _ _ _ _ _ _ (c .before .before .before .before .be
 returns-9 : tie.Need-returns-9
 returns-9 c = move-shared _ _ _ _ _ _ _ _ (c .before .before .before .before .before .before .before .before .before .before .before .if1 .left) (c .before .before .before .before .before .before .before .before .before .before .if2 .left) (c .before .before .before .before .before .before .before .before .before .if3 .left) (c .before .before .before .before .before .before .before .before .if4 .left) (c .before .before .before .before .before .before .before .if5 .left) (c .before .before .before .before .before .before .if6 .left) (c .before .before .before .if7 .left) _ (c .before .before .reader-refusal .ensures) (c .before .if8 .left) (c .if9 .taken)
 
+mul-if10 : tie.Need-mul-if10
+mul-if10 c = search needs
+
+slice-read-if10 : tie.Need-slice-read-if10
+slice-read-if10 c = search needs
+
+returns-10 : tie.Need-returns-10
+returns-10 c = move-stays _ _ _ _ _ _ _ _ (c .before .before .before .before .before .before .before .before .before .before .before .before .before .if1 .left) (c .before .before .before .before .before .before .before .before .before .before .before .before .if2 .left) (c .before .before .before .before .before .before .before .before .before .before .before .if3 .left) (c .before .before .before .before .before .before .before .before .before .before .if4 .left) (c .before .before .before .before .before .before .before .before .before .if5 .left) (c .before .before .before .before .before .before .before .before .if6 .left) (c .before .before .before .before .before .if7 .left) _ (c .before .before .before .before .reader-refusal .ensures) (c .before .before .before .if8 .left) (c .before .before .if9 .left) (c .if10 .taken)
+
 mul-reader-frames : tie.Need-mul-reader-frames
 mul-reader-frames c = search needs
 
@@ -57,8 +66,8 @@ slice-write-reader-frames c = search needs
 same-length : tie.Need-same-length
 same-length c = search needs
 
-returns-10 : tie.Need-returns-10
-returns-10 c = move-done _ _ _ _ _ _ _ _ (c .before .before .before .before .before .before .before .before .before .before .before .if1 .left) (c .before .before .before .before .before .before .before .before .before .before .if2 .left) (c .before .before .before .before .before .before .before .before .before .if3 .left) (c .before .before .before .before .before .before .before .before .if4 .left) (c .before .before .before .before .before .before .before .if5 .left) (c .before .before .before .before .before .before .if6 .left) (c .before .before .before .if7 .left) _ (c .before .before .reader-refusal .ensures) (c .before .if8 .left) (c .if9 .left)
+returns-11 : tie.Need-returns-11
+returns-11 c = move-done _ _ _ _ _ _ _ _ (c .before .before .before .before .before .before .before .before .before .before .before .before .before .if1 .left) (c .before .before .before .before .before .before .before .before .before .before .before .before .if2 .left) (c .before .before .before .before .before .before .before .before .before .before .before .if3 .left) (c .before .before .before .before .before .before .before .before .before .before .if4 .left) (c .before .before .before .before .before .before .before .before .before .if5 .left) (c .before .before .before .before .before .before .before .before .if6 .left) (c .before .before .before .before .before .if7 .left) _ (c .before .before .before .before .reader-refusal .ensures) (c .before .before .before .if8 .left) (c .before .before .if9 .left)
 
 pub update-core-spec : {M : Type 1} → statement M
 update-core-spec =
@@ -76,7 +85,10 @@ update-core-spec =
     reader-refusal-requires
     returns-8
     returns-9
+    mul-if10
+    slice-read-if10
+    returns-10
     mul-reader-frames
     slice-write-reader-frames
     same-length
-    returns-10)
+    returns-11)

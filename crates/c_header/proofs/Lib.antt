@@ -1,0 +1,2 @@
+-- What the C functions take from their cores where nothing is stored.
+mod Kept
