@@ -8,6 +8,7 @@ ghost use Prim.Native.Nat.{_+_, _-_, _<_, _≤_};
 ghost use lib.Dec.{eqb};
 ghost use lib.ListN.{length};
 ghost use Rattle.wal_types.specs.Settings.{block-entries, block-cells};
+ghost use Rattle.index_hash.specs.Home.{home};
 ghost use Rattle.index_hash.specs.Block.{probe};
 ghost use Rattle.index_search.specs.InnerRun.{All, Live, page-named, Other, met-in, Answers};
 
@@ -23,16 +24,20 @@ pub enum Near {
     Further,
 }
 
-// The probe of the near cells, one by one. An entry that is not visible ends the probe.
+// The probe of the near cells from the page's home on, one by one. An entry that is not visible ends the probe.
 // (So with none visible any cell ends it, and the source's early return for that is not needed.)
-fn probe_near(hash: &[u16], pages: &[u64], page_id: u64, visible_entries: usize) -> Near
-    requires { ⌜ (length (now hash) ≡ block-cells) × ((«visible_entries» ≤ block-entries) × («visible_entries» ≤ length (now pages))) ⌝ }
+fn probe_near(
+    hash: &[u16],
+    pages: &[u64],
+    page_id: u64,
+    from: usize,
+    visible_entries: usize,
+) -> Near
+    requires { ⌜ ((length (now hash) ≡ block-cells) × ((«visible_entries» ≤ block-entries) × («visible_entries» ≤ length (now pages)))) × ((from ≡ home «page_id») × (from + 24 ≤ block-cells)) ⌝ }
     ensures { λ r. ⌜ Answers (probe (now (hash .entry)) (now (pages .entry)) «page_id» «visible_entries») r ⌝ }
 {
-    let home = index_hash::hash_page_id(page_id);
-    let end = run::near_end(home, NEAR_CELLS);
     let mut latest = Probe::Nothing;
-    for cell in home..end {
+    for cell in from..from + NEAR_CELLS {
         let local_plus_one = hash[cell] as usize;
         if local_plus_one == 0 {
             return Near::Ended(latest);
@@ -130,7 +135,8 @@ fn probe_run(hash: &[u16], pages: &[u64], page_id: u64, visible_entries: usize) 
     latest_in_run(hash, pages, page_id, 0, wrapped, met)
 }
 
-// The place of the page's latest entry among the visible ones.
+// The place of the page's latest entry among the visible ones. Near cells that would go round the block's end are left to
+// the run.
 pub fn find_frame_in_block(
     hash: &[u16],
     pages: &[u64],
@@ -140,7 +146,11 @@ pub fn find_frame_in_block(
     requires { ⌜ (length (now hash) ≡ block-cells) × ((«visible_entries» ≤ block-entries) × («visible_entries» ≤ length (now pages))) ⌝ }
     ensures { λ r. ⌜ r ≡ probe (now (hash .entry)) (now (pages .entry)) «page_id» «visible_entries» ⌝ }
 {
-    if let Near::Ended(found) = probe_near(hash, pages, page_id, visible_entries) {
+    let from = index_hash::hash_page_id(page_id);
+    if BLOCK_CELLS - NEAR_CELLS < from {
+        return probe_run(hash, pages, page_id, visible_entries);
+    }
+    if let Near::Ended(found) = probe_near(hash, pages, page_id, from, visible_entries) {
         return found;
     }
     probe_run(hash, pages, page_id, visible_entries)

@@ -11,68 +11,62 @@ use Rattle.index_search.proofs.probe.probe_near.Statement.{statement}
 use Rattle.index_search.proofs.probe.probe_near.Tie as tie
 use Rattle.index_search.proofs.probe.probe_near.Reads as reads
 use Rattle.index_search.proofs.probe.probe_near.Lts as lts
-use Rattle.index_hash.proofs.hash_page_id.Reads as hash-page-id-reads
-use Rattle.index_search.proofs.run.near_end.Reads as near-end-reads
 
 abbrev Inv-loop : tie.InvT-loop
-Inv-loop hash pages page-id visible-entries home end latest₀ cell₀ latest cell = ((home ≤ cell) × ((cell ≤ end) × (end ≤ 8192))) × (probe-from (8192 - (cell - home)) hash pages page-id visible-entries (cell % 8192) latest ≡ probe hash pages page-id visible-entries)
+Inv-loop hash pages page-id from visible-entries latest₀ cell₀ cell-end latest cell = ((from ≤ cell) × ((cell ≤ cell-end) × (cell-end ≤ 8192))) × (probe-from (8192 - (cell - from)) hash pages page-id visible-entries (cell % 8192) latest ≡ probe hash pages page-id visible-entries)
 
 abbrev μ-loop : tie.MeasureT-loop
-μ-loop hash pages page-id visible-entries home end latest₀ cell₀ latest cell = end - cell
+μ-loop hash pages page-id from visible-entries latest₀ cell₀ cell-end latest cell = cell-end - cell
 
--- src/probe.rt:32:9
-hash-page-id-requires : tie.Need-hash-page-id-requires Inv-loop μ-loop
-hash-page-id-requires c κs = search needs
+-- src/probe.rt:40:23
+add-cell-end : tie.Need-add-cell-end Inv-loop μ-loop
+add-cell-end c = omega arith
 
--- src/probe.rt:33:9
-near-end-requires : tie.Need-near-end-requires Inv-loop μ-loop
-near-end-requires c κs = search needs
-
--- src/probe.rt:35:5
+-- src/probe.rt:40:5
 loop-holds : tie.Need-loop-holds Inv-loop μ-loop
-loop-holds c = ((omega arith, (omega arith, omega arith)), probe-start _ _ _ _ _ (omega arith) (c .before .hash-page-id .ensures .0))
+loop-holds c = ((omega arith, (omega arith, omega arith)), probe-start _ _ _ _ _ (omega arith) (c .pre .1 .0))
 
--- src/probe.rt:36:30
+-- src/probe.rt:41:30
 mul-local-plus-one : tie.Need-mul-local-plus-one Inv-loop μ-loop
 mul-local-plus-one c = omega arith
 
--- src/probe.rt:36:30
+-- src/probe.rt:41:30
 shared-slice-read-local-plus-one : tie.Need-shared-slice-read-local-plus-one Inv-loop μ-loop
 shared-slice-read-local-plus-one c = omega arith
 
--- src/probe.rt:36:30
+-- src/probe.rt:41:30
 cast-local-plus-one : tie.Need-cast-local-plus-one Inv-loop μ-loop
-cast-local-plus-one c = omega (arith, c .shared-slice-known3 .given (c .before .before .loop .cell))
+cast-local-plus-one c = omega (arith, c .shared-slice-known .given (c .before .before .loop .cell))
 
--- src/probe.rt:38:13
+-- src/probe.rt:43:13
 returns : tie.Need-returns Inv-loop μ-loop
 returns c = probe-at-empty _ _ _ _ _ _ _ _ (probe-here _ _ _ _ _ _ _ _ (omega arith) (c .before .before .before .loop .inv .1)) (omega arith) (c .if1 .taken)
 
--- src/probe.rt:40:27
+-- src/probe.rt:45:27
 sub-local-index : tie.Need-sub-local-index Inv-loop μ-loop
 sub-local-index c = omega arith
 
--- src/probe.rt:42:13
+-- src/probe.rt:47:13
 returns-2 : tie.Need-returns-2 Inv-loop μ-loop
 returns-2 c = probe-at-hidden _ _ _ _ _ _ _ _ (probe-here _ _ _ _ _ _ _ _ (omega arith) (c .before .before .before .before .loop .inv .1)) (c .before .if1 .left) (omega arith) (c .if2 .taken)
 
--- src/probe.rt:44:12
+-- src/probe.rt:49:12
 mul-if3 : tie.Need-mul-if3 Inv-loop μ-loop
 mul-if3 c = omega arith
 
--- src/probe.rt:44:12
+-- src/probe.rt:49:12
 shared-slice-read-if3 : tie.Need-shared-slice-read-if3 Inv-loop μ-loop
 shared-slice-read-if3 c = omega arith
 
--- src/probe.rt:35:9
+-- src/probe.rt:40:9
 add-cell : tie.Need-add-cell Inv-loop μ-loop
 add-cell c = omega arith
 
--- src/probe.rt:35:5
+-- src/probe.rt:40:5
 loop-less : tie.Need-loop-less Inv-loop μ-loop
 loop-less c = omega arith
 
--- src/probe.rt:35:5
+-- src/probe.rt:40:5
 loop-again : tie.Need-loop-again Inv-loop μ-loop
 unfolding next-cell
 loop-again c = (
@@ -83,7 +77,7 @@ loop-again c = (
       (c .if3 .came),
 )
 
--- src/probe.rt:28:1
+-- src/probe.rt:29:1
 returns-3 : tie.Need-returns-3 Inv-loop μ-loop
 returns-3 c = tt
 
@@ -93,8 +87,7 @@ probe-near-spec =
     (tie.spec
     Inv-loop
     μ-loop
-    hash-page-id-requires
-    near-end-requires
+    add-cell-end
     loop-holds
     mul-local-plus-one
     shared-slice-read-local-plus-one
