@@ -64,9 +64,9 @@ def without_clauses(text):
 
 
 def exported(text):
-    """Each C function becomes a plain one, which its crate calls, with a C function before it that takes slices apart."""
-    for called in {found.group(1) for found in EXPORTED.finditer(text)}:
-        text = re.sub(rf"(?<!fn )\b{called}\(", f"{called}_in_rattle(", text)
+    """Each C function becomes a plain one, which crates call, with a C function before it that takes slices apart. C
+    functions, and nothing else, have names that start with wal_."""
+    text = re.sub(r"(?<!fn )\b(wal_\w+)\(", r"\1_in_rattle(", text)
 
     def both(match):
         name, parameters, answer = match[1], match[2], match[3] or ""
@@ -99,7 +99,7 @@ def rust(text):
 
 
 # The crates with the C functions. Together they are the static library.
-BOUNDARIES = ["c_header", "c_index", "c_readers"]
+BOUNDARIES = ["c_header", "c_index", "c_readers", "c_db_file_reader"]
 
 
 def crates_of(root, names):

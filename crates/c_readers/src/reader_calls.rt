@@ -7,14 +7,13 @@ use c_reader_replies::ReaderReply;
 use reader_floor::floor;
 use reader_limit::limit;
 use reader_register::register;
-use wal_types::DB_FILE_READER_FRAME;
 use wal_types::SharedOwnerRecord;
 use wal_types::SharedReadMark;
 ghost use Rattle.reader_register.specs.Register.{register-reader};
 ghost use Rattle.reader_moves.specs.Update.{update-reader, unregister-reader};
 ghost use Rattle.reader_floor.specs.Floor.{min-active-reader-frame, has-active-db-file-reader};
 ghost use Rattle.reader_limit.specs.Limit.{copy-back-limit};
-ghost use Rattle.reader_shared.specs.Shared.{register-reader-for-snapshot, register-db-file-reader, unregister-reader-for-snapshot};
+ghost use Rattle.reader_shared.specs.Shared.{register-reader-for-snapshot, unregister-reader-for-snapshot};
 ghost use Rattle.c_numbers.specs.Reply.{refusal-number};
 ghost use Rattle.c_numbers.specs.Mode.{mode-given, with-mode};
 ghost use Rattle.c_reader_replies.specs.ReaderReply.{reader-reply, floor-reply, db-file-reply, limit-reply};
@@ -154,35 +153,6 @@ pub extern "C" fn wal_register_reader_for_snapshot(
         offered,
     );
     step.reply
-}
-
-// Registers a reader of the database file alone. card is as in wal_register_reader.
-#[no_mangle]
-pub extern "C" fn wal_register_db_file_reader(
-    n: usize,
-    mode: u32,
-    bitmap: &mut [u64],
-    reader_frames: &mut [u64],
-    reader_owners: &mut [u64],
-    local_readers: &mut [u64],
-    registry: &mut [SharedReadMark],
-    card: &[u8],
-    owner: u64,
-) -> ReaderReply
-    ensures { λ r. ⌜ RegistryReplied reader-reply (with-mode (mode-given mode) (λ given. register-db-file-reader n given owner (now (card .entry)))) (now (bitmap .entry)) (now («reader_frames» .entry)) (now («reader_owners» .entry)) (now («local_readers» .entry)) (now (registry .entry)) r (now (bitmap .exit)) (now («reader_frames» .exit)) (now («reader_owners» .exit)) (now («local_readers» .exit)) (now (registry .exit)) ⌝ }
-{
-    wal_register_reader_for_snapshot(
-        n,
-        mode,
-        bitmap,
-        reader_frames,
-        reader_owners,
-        local_readers,
-        registry,
-        card,
-        owner,
-        DB_FILE_READER_FRAME,
-    )
 }
 
 // Releases a shared mark: a holder less, and the last one empties the slot. Answers 0, or the number of the refusal.

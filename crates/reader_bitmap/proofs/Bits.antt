@@ -163,6 +163,11 @@ pub clear-le : (n i : ℕ) → clear-bit n i ≤ n
 unfolding clear-bit
 clear-le n i = omega arith
 
+-- a bit that was set makes the word less
+pub clear-less : (n i : ℕ) → bit-at n i ≡ 1 → clear-bit n i < n
+unfolding clear-bit
+clear-less n i e = let w = worth i n in let p = pow-pos i in let q : bit-at n i * 2 ^ i ≡ 2 ^ i = rw e (one-mul (2 ^ i)) in omega (arith, w, p, q)
+
 -- 0 has no bit set, and no other number
 pub zero-bits : (j : ℕ) → bit-at 0 j ≡ 0
 zero-bits zero = bit-zero 0

@@ -1,8 +1,8 @@
 -- Words for what a scan of the registry finds. No contract of a call cites them. Assumes nothing.
-use mathlib.Core.Bool.{Bool, true, false, not, _&&_, _||_}
+use mathlib.Core.Bool.{Bool, true, false, not, _&&_, cond}
 use mathlib.Core.List.{List}
 use Prim.Native.Nat.{ℕ}
-use lib.Dec.{eqb}
+use lib.Dec.{eqb, ltb}
 use lib.ListN.{getD}
 use Rattle.wal_types.specs.declared.SharedReadMark.{SharedReadMark}
 use Rattle.wal_types.specs.Memory.{no-mark}
@@ -10,11 +10,10 @@ use Rattle.reader_marks.specs.declared.Record.{Record}
 use Rattle.reader_marks.specs.declared.Record.the-variants.{At, Nothing}
 use Rattle.reader_marks.specs.declared.Wanted.{Wanted}
 use Rattle.reader_marks.specs.declared.Wanted.the-variants.{Mark, Slot, Empty}
-use Rattle.reader_marks.specs.declared.Found.{Found}
 use Rattle.reader_marks.specs.declared.Seen.{Seen}
-use Rattle.reader_marks.specs.Registry.{is-empty, fits, first-record, record-of, empty-record}
+use Rattle.reader_marks.specs.Registry.{is-empty, fits, record-of, empty-record}
 
--- the record is wanted, a record in use is, and none of four records is
+-- the record is wanted; a record in use is; and eight records are passed over
 unfoldable pub picks : Wanted → SharedReadMark → Bool
 picks (Mark mark) = fits mark
 picks (Slot slot) = λ r. not (is-empty r) && eqb (r .slot) slot
@@ -25,34 +24,24 @@ wants-use (Mark mark) = true
 wants-use (Slot slot) = true
 wants-use Empty = false
 
-unfoldable pub none-picked : Wanted → SharedReadMark → SharedReadMark → SharedReadMark → SharedReadMark → Bool
-none-picked wanted a b c d = not (picks wanted a || picks wanted b || picks wanted c || picks wanted d)
+unfoldable pub passed-over : Wanted → SharedReadMark → SharedReadMark → SharedReadMark → SharedReadMark → SharedReadMark → SharedReadMark → SharedReadMark → SharedReadMark → Bool
+passed-over wanted a b c d e f g h = (is-empty a && is-empty b && is-empty c && is-empty d && is-empty e && is-empty f && is-empty g && is-empty h) && wants-use wanted
 
--- what a scan finds: the first of so many records that the test picks
-abbrev pub nothing-found : Found
-nothing-found = record { place = Nothing; item = no-mark }
+-- the place of a record that is found, and how many records there are where none is; and the other way
+abbrev pub place-in : ℕ → Record → ℕ
+place-in records (At i) = i
+place-in records Nothing = records
 
-abbrev pub found-here : ℕ → SharedReadMark → Found
-found-here i r = record { place = At i; item = r }
-
-abbrev pub found-at : List SharedReadMark → Record → Found
-found-at registry (At i) = found-here i (getD registry i no-mark)
-found-at registry Nothing = nothing-found
-
-unfoldable pub found-of : (SharedReadMark → Bool) → List SharedReadMark → ℕ → Found
-found-of test registry n = found-at registry (first-record test registry n 0)
-
-abbrev pub is-found : Record → Bool
-is-found (At i) = true
-is-found Nothing = false
+abbrev pub record-at : ℕ → ℕ → Record
+record-at place records = cond (ltb place records) (At place) Nothing
 
 -- What is seen of the first n records: the mark's and, where it has none, the first empty one. A scan that finds the mark looks
 -- no further.
-abbrev pub seen-alone : Found → Seen
-seen-alone found = record { place = found .place; item = found .item; empty = Nothing }
+abbrev pub seen-alone : ℕ → SharedReadMark → Seen
+seen-alone place item = record { place = At place; item = item; empty = Nothing }
 
-abbrev pub seen-with : Found → Found → Seen
-seen-with found free = record { place = found .place; item = found .item; empty = free .place }
+abbrev pub seen-with : ℕ → ℕ → Seen
+seen-with free records = record { place = Nothing; item = no-mark; empty = record-at free records }
 
 abbrev pub empty-unless : Record → ℕ → List SharedReadMark → Record
 empty-unless (At i) n registry = Nothing

@@ -4,10 +4,11 @@ use wal_types::SharedOwnerRecord;
 use wal_types::SharedReadMark;
 ghost use mathlib.Core.Path.{_≡_};
 ghost use mathlib.Core.Bool.{_&&_, cond};
+ghost use lib.Dec.{ltb};
 ghost use Rattle.reader_marks.specs.declared.Wanted.the-variants.{Mark, Slot, Empty};
 ghost use Rattle.reader_marks.specs.Registry.{is-empty, one-less};
 ghost use Rattle.reader_marks.specs.InnerChange.{one-more-below, first-held};
-ghost use Rattle.reader_marks.specs.InnerScan.{picks, wants-use, none-picked, nothing-found, found-here, is-found, seen-alone, seen-with};
+ghost use Rattle.reader_marks.specs.InnerScan.{picks, wants-use, passed-over, record-at, seen-alone, seen-with};
 
 // A record has no more holders than this.
 pub const MOST_HOLDERS: u32 = 65535;
@@ -23,12 +24,6 @@ pub enum Wanted {
     Mark(u64),
     Slot(usize),
     Empty,
-}
-
-// What a scan has found: the first record that is wanted, and its contents.
-pub struct Found {
-    pub place: Record,
-    pub item: SharedReadMark,
 }
 
 // What a registration or a release asks of the registry: the record of a mark and its contents and, where there is none, the
@@ -50,12 +45,28 @@ fn is_wanted(m: SharedReadMark, wanted: Wanted) -> bool
     }
 }
 
-// Whether none of four records is in use. The sum is of 64 bits: four counts of 32 bits in damaged memory cannot wrap to 0
-// and hide a record in use.
-fn all_empty(a: SharedReadMark, b: SharedReadMark, c: SharedReadMark, d: SharedReadMark) -> bool
-    ensures { λ r. ⌜ r ≡ (is-empty a && is-empty b && is-empty c && is-empty d) ⌝ }
+// Whether none of eight records is in use. All eight are looked at before the one test, so that the compiler makes a load of
+// each and an or of them.
+fn all_empty(
+    a: SharedReadMark,
+    b: SharedReadMark,
+    c: SharedReadMark,
+    d: SharedReadMark,
+    e: SharedReadMark,
+    f: SharedReadMark,
+    g: SharedReadMark,
+    h: SharedReadMark,
+) -> bool
+    ensures { λ r. ⌜ r ≡ (is-empty a && is-empty b && is-empty c && is-empty d && is-empty e && is-empty f && is-empty g && is-empty h) ⌝ }
 {
-    a.holders as u64 + b.holders as u64 + c.holders as u64 + d.holders as u64 == 0
+    (a.holders == 0)
+        & (b.holders == 0)
+        & (c.holders == 0)
+        & (d.holders == 0)
+        & (e.holders == 0)
+        & (f.holders == 0)
+        & (g.holders == 0)
+        & (h.holders == 0)
 }
 
 // Whether a record in use is looked for.
@@ -69,54 +80,24 @@ fn wants_use(wanted: Wanted) -> bool
     }
 }
 
-// Whether none of four records is wanted.
-pub fn none_wanted(
+// Whether a scan passes over eight records: none is in use, and a record in use is looked for.
+pub fn passes_over(
     a: SharedReadMark,
     b: SharedReadMark,
     c: SharedReadMark,
     d: SharedReadMark,
+    e: SharedReadMark,
+    f: SharedReadMark,
+    g: SharedReadMark,
+    h: SharedReadMark,
     wanted: Wanted,
 ) -> bool
-    ensures { λ r. ⌜ r ≡ none-picked wanted a b c d ⌝ }
+    ensures { λ r. ⌜ r ≡ passed-over wanted a b c d e f g h ⌝ }
 {
-    if all_empty(a, b, c, d) {
+    if all_empty(a, b, c, d, e, f, g, h) {
         return wants_use(wanted);
     }
-    if is_wanted(a, wanted) {
-        return false;
-    }
-    if is_wanted(b, wanted) {
-        return false;
-    }
-    if is_wanted(c, wanted) {
-        return false;
-    }
-    !is_wanted(d, wanted)
-}
-
-// What a scan gives that finds nothing, and one that stops at a record.
-pub fn nothing_found() -> Found
-    ensures { λ r. ⌜ r ≡ nothing-found ⌝ }
-{
-    Found {
-        place: Record::Nothing,
-        item: SharedReadMark {
-            mark: 0,
-            slot: 0,
-            owner: SharedOwnerRecord(0),
-            holders: 0,
-        },
-    }
-}
-
-pub fn found_here(i: usize, m: SharedReadMark) -> Found
-    ensures { λ r. ⌜ r ≡ found-here i m ⌝ }
-{
-    let here = Record::At(i);
-    Found {
-        place: here,
-        item: m,
-    }
+    false
 }
 
 // One record more: a scan stops at the first that is wanted.
@@ -148,39 +129,60 @@ pub fn empty_wanted() -> Wanted
     Wanted::Empty
 }
 
-pub fn is_found(place: Record) -> bool
-    ensures { λ r. ⌜ r ≡ is-found place ⌝ }
+// What a scan tells: where it has stopped before the end the place of that record, and else how many records there are, which
+// is no record's place.
+pub fn place_told(stop: usize, end: usize, records: usize) -> usize
+    ensures { λ r. ⌜ r ≡ cond (ltb stop end) stop records ⌝ }
 {
-    match place {
-        Record::At(i) => true,
-        Record::Nothing => false,
+    if stop < end {
+        return stop;
     }
+    records
+}
+
+pub fn is_place(place: usize, records: usize) -> bool
+    ensures { λ r. ⌜ r ≡ ltb place records ⌝ }
+{
+    place < records
 }
 
 // What is seen where the mark has a record, and where it has none.
-pub fn seen_alone(found: Found) -> Seen
-    ensures { λ r. ⌜ r ≡ seen-alone found ⌝ }
+pub fn seen_alone(place: usize, item: SharedReadMark) -> Seen
+    ensures { λ r. ⌜ r ≡ seen-alone place item ⌝ }
 {
-    let place = found.place;
-    let item = found.item;
+    let here = Record::At(place);
     let free = Record::Nothing;
     Seen {
-        place: place,
+        place: here,
         item: item,
         empty: free,
     }
 }
 
-pub fn seen_with(found: Found, empty: Found) -> Seen
-    ensures { λ r. ⌜ r ≡ seen-with found empty ⌝ }
+fn record_at(place: usize, records: usize) -> Record
+    ensures { λ r. ⌜ r ≡ record-at place records ⌝ }
 {
-    let place = found.place;
-    let item = found.item;
-    let free = empty.place;
+    if place < records {
+        return Record::At(place);
+    }
+    Record::Nothing
+}
+
+pub fn seen_with(free: usize, records: usize) -> Seen
+    ensures { λ r. ⌜ r ≡ seen-with free records ⌝ }
+{
+    let nowhere = Record::Nothing;
+    let item = SharedReadMark {
+        mark: 0,
+        slot: 0,
+        owner: SharedOwnerRecord(0),
+        holders: 0,
+    };
+    let empty = record_at(free, records);
     Seen {
-        place: place,
+        place: nowhere,
         item: item,
-        empty: free,
+        empty: empty,
     }
 }
 

@@ -12,8 +12,9 @@ ghost use Prim.Native.Nat.{_+_, _/_, _<_, _≤_};
 ghost use lib.ListN.{length, set};
 ghost use Rattle.wal_types.specs.Store.{apply};
 ghost use Rattle.reader_slots.specs.Slots.{take-slot, ReaderCall};
-ghost use Rattle.reader_slots.specs.Search.{found-slot};
-ghost use Rattle.reader_slots.specs.Inner.{SlotsBecome};
+ghost use Rattle.reader_slots.specs.declared.slots.Slot.the-variants.{Nothing};
+ghost use Rattle.reader_slots.specs.Search.{found-slot, lowest-slot};
+ghost use Rattle.reader_slots.specs.Inner.{SlotsBecome, available-by};
 ghost use Rattle.reader_register.specs.Register.{register-reader, register-answer};
 ghost use Rattle.reader_register.specs.Inner.{register-refusal, chosen-by, RegistersCall};
 
@@ -77,9 +78,9 @@ fn register_refusal(
     0
 }
 
-// register_reader where none of its refusals applies. The lowest free slot is taken; if none is free, the lowest stale
-// one, which is free once the stale slots are reclaimed.
-pub fn register_checked(
+// register_reader where none of its refusals applies and no slot is free: the lowest stale slot is taken, which is free once
+// the stale slots are reclaimed.
+fn register_stale(
     n: usize,
     mode: SharedWalOwnershipMode,
     bitmap: &mut [u64],
@@ -90,21 +91,9 @@ pub fn register_checked(
     owner: SharedOwnerRecord,
     mark: u64,
 ) -> Register
-    requires { ⌜ (n ≤ 256) × (((n + 63) / 64 ≤ length (now bitmap)) × ((n ≤ length (now «reader_frames»)) × ((n ≤ length (now «reader_owners»)) × ((n ≤ length (now «local_readers»)) × (length (now card) ≡ n))))) ⌝ }
+    requires { ⌜ (n ≤ 256) × (((n + 63) / 64 ≤ length (now bitmap)) × ((n ≤ length (now «reader_frames»)) × ((n ≤ length (now «reader_owners»)) × ((n ≤ length (now «local_readers»)) × ((length (now card) ≡ n) × (lowest-slot (available-by (now bitmap) (now «local_readers») (now card)) n 0 ≡ Nothing)))))) ⌝ }
     ensures { λ r. ⌜ RegistersCall n mode (owner .0) mark (now (card .entry)) (now (bitmap .entry)) (now («reader_frames» .entry)) (now («reader_owners» .entry)) (now («local_readers» .entry)) (register-answer (owner .0) mark r) (now (bitmap .exit)) (now («reader_frames» .exit)) (now («reader_owners» .exit)) (now («local_readers» .exit)) ⌝ }
 {
-    if let Slot::At(slot) = available::available_slot(n, bitmap, local_readers, card) {
-        take_slot(
-            bitmap,
-            reader_frames,
-            reader_owners,
-            local_readers,
-            slot,
-            owner,
-            mark,
-        );
-        return Register::Taken(slot);
-    }
     let Slot::At(slot) = stale::stale_slot(n, mode, bitmap, reader_owners, local_readers, card)
     else {
         return Register::NoSlot;
@@ -131,6 +120,46 @@ pub fn register_checked(
     Register::Taken(slot)
 }
 
+// register_reader where none of its refusals applies. The lowest free slot is taken; if none is free, the lowest stale one.
+pub fn register_checked(
+    n: usize,
+    mode: SharedWalOwnershipMode,
+    bitmap: &mut [u64],
+    reader_frames: &mut [u64],
+    reader_owners: &mut [u64],
+    local_readers: &mut [u64],
+    card: &[u8],
+    owner: SharedOwnerRecord,
+    mark: u64,
+) -> Register
+    requires { ⌜ (n ≤ 256) × (((n + 63) / 64 ≤ length (now bitmap)) × ((n ≤ length (now «reader_frames»)) × ((n ≤ length (now «reader_owners»)) × ((n ≤ length (now «local_readers»)) × (length (now card) ≡ n))))) ⌝ }
+    ensures { λ r. ⌜ RegistersCall n mode (owner .0) mark (now (card .entry)) (now (bitmap .entry)) (now («reader_frames» .entry)) (now («reader_owners» .entry)) (now («local_readers» .entry)) (register-answer (owner .0) mark r) (now (bitmap .exit)) (now («reader_frames» .exit)) (now («reader_owners» .exit)) (now («local_readers» .exit)) ⌝ }
+{
+    if let Slot::At(slot) = available::available_slot(n, bitmap, local_readers, card) {
+        take_slot(
+            bitmap,
+            reader_frames,
+            reader_owners,
+            local_readers,
+            slot,
+            owner,
+            mark,
+        );
+        return Register::Taken(slot);
+    }
+    register_stale(
+        n,
+        mode,
+        bitmap,
+        reader_frames,
+        reader_owners,
+        local_readers,
+        card,
+        owner,
+        mark,
+    )
+}
+
 // Whether a registration could take a slot: one is free, or else one is stale.
 pub fn could_take(
     n: usize,
@@ -153,7 +182,9 @@ pub fn could_take(
     true
 }
 
-// Takes a reader slot for a read transaction at a mark. The mark in the slot keeps checkpoints from copying past it.
+// Takes a reader slot for a read transaction at a mark. The mark in the slot keeps checkpoints from copying past it. What
+// register_checked does stands here once more, so that the compiler makes one function of this call: only where no slot is
+// free are the lent slices passed on through the stack.
 pub fn register_reader(
     n: usize,
     mode: SharedWalOwnershipMode,
@@ -180,7 +211,19 @@ pub fn register_reader(
     if refused != 0 {
         return Register::Refused(refused);
     }
-    register_checked(
+    if let Slot::At(free) = available::available_slot(n, bitmap, local_readers, card) {
+        take_slot(
+            bitmap,
+            reader_frames,
+            reader_owners,
+            local_readers,
+            free,
+            owner,
+            mark,
+        );
+        return Register::Taken(free);
+    }
+    register_stale(
         n,
         mode,
         bitmap,

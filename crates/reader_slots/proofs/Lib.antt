@@ -3,7 +3,7 @@ pub mod Card
 pub mod Calls
 pub mod Lowest
 pub mod Some
-pub mod Masked
+pub mod Free
 pub mod Words
 pub mod Emptied
 pub mod Cells

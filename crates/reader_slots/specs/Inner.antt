@@ -1,9 +1,9 @@
 -- Words for the contracts of the inner functions: the calls' tests, over single cells and lists. No contract of a call cites
 -- them. Assumes nothing.
 use mathlib.Core.Path.{_≡_}
-use mathlib.Core.Bool.{Bool, not, _&&_, _||_, cond}
+use mathlib.Core.Bool.{Bool, not, _&&_, _||_}
 use mathlib.Core.List.{List, [], _∷_}
-use Prim.Native.Nat.{ℕ, _+_, _-_, max}
+use Prim.Native.Nat.{ℕ, _-_, max}
 use lib.Dec.{eqb, ltb}
 use lib.ListN.{getD}
 use Rattle.wal_types.specs.declared.SharedWalOwnershipMode.{SharedWalOwnershipMode}
@@ -11,8 +11,6 @@ use Rattle.wal_types.specs.Settings.{slots-in-limits, unused}
 use Rattle.wal_types.specs.Memory.{Memory, Process, bit-at, slot-bit}
 use Rattle.wal_types.specs.Store.{apply, when}
 use Rattle.wal_types.specs.Refusal.{Test, _if_, lowest, settings, short-memory, no-owner, unused-mark}
-use Rattle.reader_slots.specs.declared.slots.Slot.{Slot}
-use Rattle.reader_slots.specs.declared.slots.Slot.the-variants.{At, Nothing}
 use Rattle.reader_slots.specs.Slots.{shorter, granted, empty-slot, slots-in, locals-in}
 
 -- the number of refusal 1 or 2, 0 for neither
@@ -57,7 +55,3 @@ available-by words locals bytes i = not (not (eqb (getD locals i 0) 0)) && eqb (
 
 abbrev pub available-in : ℕ → ℕ → List ℕ → List ℕ → ℕ → Bool
 available-in word first locals bytes i = not (not (eqb (getD locals i 0) 0)) && eqb (bit-at word (i - first)) 1 && granted bytes i
-
--- the slot that a bit of a word stands for, by the word's first slot; bit 64 is none
-abbrev pub slot-of-bit : ℕ → ℕ → Slot
-slot-of-bit first bit = cond (ltb bit 64) (At (first + bit)) Nothing

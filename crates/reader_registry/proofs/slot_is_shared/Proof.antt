@@ -1,4 +1,4 @@
--- `reader_registry::slot_is_shared` meets its contract: a walk of its MIR, printed by tools/walk. All that it knows of `slot_wanted`, `first_record`, `is_found` is that each meets its contract. Assumes nothing.
+-- `reader_registry::slot_is_shared` meets its contract: a walk of its MIR, printed by tools/walk. All that it knows of `slot_wanted`, `first_record`, `is_place` is that each meets its contract. Assumes nothing.
 use mathlib.Core.Path.{_≡_, refl, ap, subst}
 use Prim.Native.Nat.{ℕ, _<_, _^_, min}
 use mathlib.Core.Bool.{Bool}
@@ -46,7 +46,9 @@ use denote.Triple.Spec.{Meets, tripleOf}
 use denote.Triple.Table.{entered, cited}
 use denote.Triple.Walked.{says, Stays, gave-slice, stay-none, stay-none-slice, stay-ref, walkOf, Walks, ends-at, walked, goes-gave-slice, goes-none, goes-none-slice, goes-ref, walk-meets}
 use Rattle.reader_slots.specs.Slots.{in-registry}
-use Rattle.reader_marks.specs.InnerScan.{picks, found-of, is-found}
+use Rattle.reader_marks.specs.Registry.{first-record}
+use Rattle.reader_marks.specs.InnerScan.{picks, place-in}
+use lib.Dec.{ltb}
 use Rattle.reader_marks.specs.declared.Wanted.the-variants.{Slot}
 use Rattle.wal_types.specs.declared.SharedReadMark.{SharedReadMark}
 use Rattle.wal_types.proofs.SharedReadMark as SharedReadMarkT
@@ -57,12 +59,6 @@ use Rattle.wal_types.proofs.SharedOwnerRecord.Laws as SharedOwnerRecordL
 use Rattle.reader_marks.specs.declared.Wanted.{Wanted}
 use Rattle.reader_marks.proofs.Wanted as WantedT
 use Rattle.reader_marks.proofs.Wanted.Laws as WantedL
-use Rattle.reader_marks.specs.declared.Found.{Found}
-use Rattle.reader_marks.proofs.Found as FoundT
-use Rattle.reader_marks.proofs.Found.Laws as FoundL
-use Rattle.reader_marks.specs.declared.Record.{Record}
-use Rattle.reader_marks.proofs.Record as RecordT
-use Rattle.reader_marks.proofs.Record.Laws as RecordL
 use Rattle.reader_registry.proofs.Scan.{slot-told}
 use Rattle.reader_marks.proofs.slot_wanted as slot-wanted-fn
 use Rattle.reader_marks.proofs.slot_wanted.Symbol as slot-wanted-def
@@ -72,10 +68,10 @@ use Rattle.reader_registry.proofs.first_record as first-record-fn
 use Rattle.reader_registry.proofs.first_record.Symbol as first-record-def
 use Rattle.reader_registry.proofs.first_record.Symbol.{name as #reader-registry·first-record}
 use Rattle.reader_registry.proofs.first_record.Met as first-record-thm
-use Rattle.reader_marks.proofs.is_found as is-found-fn
-use Rattle.reader_marks.proofs.is_found.Symbol as is-found-def
-use Rattle.reader_marks.proofs.is_found.Symbol.{name as #reader-marks·is-found}
-use Rattle.reader_marks.proofs.is_found.Met as is-found-thm
+use Rattle.reader_marks.proofs.is_place as is-place-fn
+use Rattle.reader_marks.proofs.is_place.Symbol as is-place-def
+use Rattle.reader_marks.proofs.is_place.Symbol.{name as #reader-marks·is-place}
+use Rattle.reader_marks.proofs.is_place.Met as is-place-thm
 use Rattle.reader_registry.proofs.slot_is_shared.Key.{name as #reader-registry·slot-is-shared}
 use Rattle.reader_registry.proofs.slot_is_shared as entry
 use Rattle.reader_registry.proofs.slot_is_shared.Statement as stated
@@ -91,8 +87,8 @@ Meets-slot-wanted 𝓤 H A mem run = tripleOf 𝓤 H A slot-wanted-fn.signature 
 abbrev Meets-first-record : {M : Type 1} (𝓤 : URA M) (H : Heap 𝓤) (A : Atoms 𝓤) (mem : Memory → SProp 𝓤) (run : Routine → Fun 𝓤) → Contract 𝓤
 Meets-first-record 𝓤 H A mem run = tripleOf 𝓤 H A first-record-fn.signature (first-record-fn.spec 𝓤 H A mem run)
 
-abbrev Meets-is-found : {M : Type 1} (𝓤 : URA M) (H : Heap 𝓤) (A : Atoms 𝓤) (mem : Memory → SProp 𝓤) (run : Routine → Fun 𝓤) → Contract 𝓤
-Meets-is-found 𝓤 H A mem run = tripleOf 𝓤 H A is-found-fn.signature (is-found-fn.spec 𝓤 H A mem run)
+abbrev Meets-is-place : {M : Type 1} (𝓤 : URA M) (H : Heap 𝓤) (A : Atoms 𝓤) (mem : Memory → SProp 𝓤) (run : Routine → Fun 𝓤) → Contract 𝓤
+Meets-is-place 𝓤 H A mem run = tripleOf 𝓤 H A is-place-fn.signature (is-place-fn.spec 𝓤 H A mem run)
 
 module _ {M : Type 1} (𝓤 : URA M) (H : Heap 𝓤) (A : Atoms 𝓤) (W : Given 𝓤 H A) (mem : Memory → SProp 𝓤) (run : Routine → Fun 𝓤) (κ0 : Lft) (q0 : Share) (b o : ℕ) (γ : GName) (ys : List SharedReadMark) (n : ℕ) (slot : ℕ)
     (room-registry : Room SharedReadMarkT.the-row (length ys)) (fits-n : n < 2 ^ 64) (fits-slot : slot < 2 ^ 64) where
@@ -155,40 +151,40 @@ module _ {M : Type 1} (𝓤 : URA M) (H : Heap 𝓤) (A : Atoms 𝓤) (W : Given
   goes-first-record : (t1 : Wanted) → ent 𝓤 (⋆ 𝓤 H A ((‵ (flft κ0 q0) ⊛ ‵ ftrue) ∷ ‵ (owns (ShrSlice (named 0) κ0 SharedReadMarkT.the-row ∷ usize ∷ WantedT.the-row ∷ []) (args-first-record t1) (vals-first-record t1)) ∷ [])) (Meets-first-record 𝓤 H A mem run .pre (to-first-record t1))
   goes-first-record t1 = qed W ((‵ (flft κ0 q0) ⊛ ‵ ftrue) ∷ ‵ (owns (ShrSlice (named 0) κ0 SharedReadMarkT.the-row ∷ usize ∷ WantedT.the-row ∷ []) (args-first-record t1) (vals-first-record t1)) ∷ []) ∵ join ! $ frame ! $ done !
 
-  abbrev Says-first-record : Wanted → Found → Type 0
-  Says-first-record t1 t2 = t2 ≡ found-of (picks t1) ys (min n (length ys))
+  abbrev Says-first-record : Wanted → ℕ → Type 0
+  Says-first-record t1 t2 = t2 ≡ place-in (length ys) (first-record (picks t1) ys (min n (length ys)) 0)
 
-  -- `is_found`: what it is passed, and what it tells
-  abbrev args-is-found : Found → Record × Unit {0}
-  args-is-found t2 = ((t2 .place), tt)
+  -- `is_place`: what it is passed, and what it tells
+  abbrev args-is-place : ℕ → ℕ × (ℕ × Unit {0})
+  args-is-place t2 = (t2, ((length ys), tt))
 
-  abbrev vals-is-found : Found → List Val × Unit {0}
-  vals-is-found t2 = (EL.val RecordT.the-type RecordL.the-laws (t2 .place) ∷ [], tt)
+  abbrev vals-is-place : ℕ → List Val × (List Val × Unit {0})
+  vals-is-place t2 = (vint w64 t2 ∷ [], (vint w64 (length ys) ∷ [], tt))
 
-  abbrev to-is-found : Found → Meets-is-found 𝓤 H A mem run .Ghost
-  to-is-found t2 = ((tt, tt, tt, args-is-found t2, vals-is-found t2), tt)
+  abbrev to-is-place : ℕ → Meets-is-place 𝓤 H A mem run .Ghost
+  to-is-place t2 = ((tt, tt, tt, args-is-place t2, vals-is-place t2), tt)
 
-  goes-is-found : (t2 : Found) → ent 𝓤 (⋆ 𝓤 H A (‵ ftrue ∷ ‵ (owns (RecordT.the-row ∷ []) (args-is-found t2) (vals-is-found t2)) ∷ [])) (Meets-is-found 𝓤 H A mem run .pre (to-is-found t2))
-  goes-is-found t2 = qed W (‵ ftrue ∷ ‵ (owns (RecordT.the-row ∷ []) (args-is-found t2) (vals-is-found t2)) ∷ []) ∵ join ! $ frame ! $ done !
+  goes-is-place : (t2 : ℕ) → ent 𝓤 (⋆ 𝓤 H A (‵ ftrue ∷ ‵ (owns (usize ∷ usize ∷ []) (args-is-place t2) (vals-is-place t2)) ∷ [])) (Meets-is-place 𝓤 H A mem run .pre (to-is-place t2))
+  goes-is-place t2 = qed W (‵ ftrue ∷ ‵ (owns (usize ∷ usize ∷ []) (args-is-place t2) (vals-is-place t2)) ∷ []) ∵ join ! $ frame ! $ done !
 
-  abbrev Says-is-found : Found → Bool → Type 0
-  Says-is-found t2 t3 = t3 ≡ is-found (t2 .place)
+  abbrev Says-is-place : ℕ → Bool → Type 0
+  Says-is-place t2 t3 = t3 ≡ ltb t2 (length ys)
 
-  module _ (C : Calls 𝓤 H) (Λ : Loops 𝓤 H) (fm : FmC 𝓤 H (W .laws) C) (known-slot-wanted : Triple 𝓤 (C #reader-marks·slot-wanted) (Meets-slot-wanted 𝓤 H A mem run)) (known-first-record : Triple 𝓤 (C #reader-registry·first-record) (Meets-first-record 𝓤 H A mem run)) (known-is-found : Triple 𝓤 (C #reader-marks·is-found) (Meets-is-found 𝓤 H A mem run)) where
+  module _ (C : Calls 𝓤 H) (Λ : Loops 𝓤 H) (fm : FmC 𝓤 H (W .laws) C) (known-slot-wanted : Triple 𝓤 (C #reader-marks·slot-wanted) (Meets-slot-wanted 𝓤 H A mem run)) (known-first-record : Triple 𝓤 (C #reader-registry·first-record) (Meets-first-record 𝓤 H A mem run)) (known-is-place : Triple 𝓤 (C #reader-marks·is-place) (Meets-is-place 𝓤 H A mem run)) where
     walk : ent 𝓤 (onEntry 𝓤 H A entry.signature (κ0, tt) (q0, tt) passed at) (WpFn 𝓤 H C Λ code.function flat Post)
     walk =
         qed W ((‵ (flft κ0 q0) ⊛ ‵ ftrue) ∷ ‵ (owns (ShrSlice (named 0) κ0 SharedReadMarkT.the-row ∷ usize ∷ usize ∷ []) passed at) ∷ []) ∵ enter ! C Λ code.function flat _ $
-        alloc1 ! (λ l₀. alloc1 ! (λ l₁. alloc1 ! (λ l₂. alloc1 ! (λ l₃. alloc1 ! (λ l₄. alloc1 ! (λ l₅. alloc0 ! $ params1 ! $ pass1 ! (init ! 8 refl (tt, (tt, (record { fits = room-registry .0 }, tt)))) $
-        pass1 ! (init ! 6 refl (tt, record { fits = fits-n })) $ pass1 ! (init ! 4 refl (tt, record { fits = fits-slot })) $ pass0 ! $ move ! (13 ∷ []) $ fsplit ! $ move ! (1 ∷ []) $ fsplit ! $ drop ! $ fsplit ! $ drop ! $
-        drop ! $ move ! (13 ∷ []) $ split ! $ move ! (1 ∷ []) $ drop ! $
+        alloc1 ! (λ l₀. alloc1 ! (λ l₁. alloc1 ! (λ l₂. alloc1 ! (λ l₃. alloc1 ! (λ l₄. alloc1 ! (λ l₅. alloc1 ! (λ l₆. alloc0 ! $ params1 ! $ pass1 ! (init ! 10 refl (tt, (tt, (record { fits = room-registry .0 }, tt)))) $
+        pass1 ! (init ! 8 refl (tt, record { fits = fits-n })) $ pass1 ! (init ! 6 refl (tt, record { fits = fits-slot })) $ pass0 ! $ move ! (15 ∷ []) $ fsplit ! $ move ! (1 ∷ []) $ fsplit ! $ drop ! $ fsplit ! $ drop ! $
+        drop ! $ move ! (15 ∷ []) $ split ! $ move ! (1 ∷ []) $ drop ! $
         -- `slot_wanted`
         nothing ! $ owned ! usize (Is usize) (uint-makes 𝓤 H A W w64) slot _ (refl, fits-slot) $ fjoin ! $ nothing ! $ use2 W (raw (Meets-slot-wanted 𝓤 H A mem run .pre to-slot-wanted)) goes-slot-wanted $
-        calls-at ! fm (Meets-slot-wanted 𝓤 H A mem run) known-slot-wanted to-slot-wanted (and-then ! (load ! (from ! (stop !)) (look ! 7 refl)) (no-more !)) (λ v1.
+        calls-at ! fm (Meets-slot-wanted 𝓤 H A mem run) known-slot-wanted to-slot-wanted (and-then ! (load ! (from ! (stop !)) (look ! 9 refl)) (no-more !)) (λ v1.
         use1 W (later (some (λ (t1 : Wanted). (‵ ftrue ⊛ ‵ (WantedT.the-row .own t1 (v1 ∷ []))) ⊛ raw (ensured 𝓤 H A slot-wanted-fn.ended (slot-wanted-fn.clauses 𝓤 H A mem run) tt (args-slot-wanted) tt t1)))) (id⊢ 𝓤 _) $ await ! tt $ pick ! (λ t1.
         split ! $ move ! (1 ∷ []) $ use1 W (some (λ (ws1 : Unit {0} × Unit {0}). ‵ (lasts slot-wanted-fn.ended tt (args-slot-wanted) ws1) ⊛ raw (fact 𝓤 (Says-slot-wanted t1)))) (id⊢ 𝓤 _) $ pick ! (λ ws1. split ! $
         move ! (1 ∷ []) $ heard ! (Says-slot-wanted t1) (λ e1. drop ! $ split ! $ move ! (1 ∷ []) $ peeks ! WantedT.the-row (Is WantedT.the-row) (shows 𝓤 H A WantedT.the-row) t1 (v1 ∷ []) (λ is1. drop ! $
-        land ! (from ! (stop !)) (init ! 3 refl (EL.lawful WantedT.the-type WantedL.the-laws 𝓤 H A W tt .typed t1 _ is1 .0)) $
-        rewrite ! 3 (λ (u : Val). ‵ (fat fullShare WantedL.mir l₅ 0 u)) (ap only (EL.tells WantedT.the-type WantedL.the-laws t1 (v1 ∷ []) is1)) refl $ drop ! $
+        land ! (from ! (stop !)) (init ! 5 refl (EL.lawful WantedT.the-type WantedL.the-laws 𝓤 H A W tt .typed t1 _ is1 .0)) $
+        rewrite ! 5 (λ (u : Val). ‵ (fat fullShare WantedL.mir l₅ 0 u)) (ap only (EL.tells WantedT.the-type WantedL.the-laws t1 (v1 ∷ []) is1)) refl $ drop ! $
         -- `first_record`
         move ! (1 ∷ []) $
         use1 W (‵ (ShrSlice (named 0) κ0 SharedReadMarkT.the-row .own (at-list γ ys) (seen ∷ [])) ⊛ ‵ (ShrSlice (named 0) κ0 SharedReadMarkT.the-row .own (at-list γ ys) (seen ∷ []))) (shr-slice-copy 𝓤 H A W (named 0) κ0 SharedReadMarkT.the-row .twice (at-list γ ys) (seen ∷ [])) $
@@ -196,38 +192,39 @@ module _ {M : Type 1} (𝓤 : URA M) (H : Heap 𝓤) (A : Atoms 𝓤) (W : Given
         owned ! WantedT.the-row (Is WantedT.the-row) (EL.makes WantedT.the-type WantedL.the-plain 𝓤 H A) t1 _ (subst (Is WantedT.the-row t1) (EL.tells WantedT.the-type WantedL.the-laws t1 (v1 ∷ []) is1) is1) $ fjoin ! $
         owned ! usize (Is usize) (uint-makes 𝓤 H A W w64) n _ (refl, fits-n) $ fjoin ! $ move ! (1 ∷ 0 ∷ []) $ fjoin ! $ nothing ! $ move ! (3 ∷ 0 ∷ []) $ join ! $
         use2 W (raw (Meets-first-record 𝓤 H A mem run .pre (to-first-record t1))) (goes-first-record t1) $
-        calls-at ! fm (Meets-first-record 𝓤 H A mem run) known-first-record (to-first-record t1) (and-then ! (load ! (from ! (stop !)) (look ! 10 refl)) (and-then ! (load ! (from ! (stop !)) (look ! 8 refl)) (and-then ! (load ! (from ! (stop !)) (look ! 2 refl)) (no-more !)))) (λ v2.
-        use1 W (later (some (λ (t2 : Found). ((‵ (flft κ0 q0) ⊛ ‵ ftrue) ⊛ ‵ (FoundT.the-row .own t2 (v2 ∷ []))) ⊛ raw (ensured 𝓤 H A first-record-fn.ended (first-record-fn.clauses 𝓤 H A mem run) (κ0, tt) (args-first-record t1) tt t2)))) (id⊢ 𝓤 _) $ await ! tt $ pick ! (λ t2.
+        calls-at ! fm (Meets-first-record 𝓤 H A mem run) known-first-record (to-first-record t1) (and-then ! (load ! (from ! (stop !)) (look ! 12 refl)) (and-then ! (load ! (from ! (stop !)) (look ! 10 refl)) (and-then ! (load ! (from ! (stop !)) (look ! 4 refl)) (no-more !)))) (λ v2.
+        use1 W (later (some (λ (t2 : ℕ). ((‵ (flft κ0 q0) ⊛ ‵ ftrue) ⊛ ‵ (usize .own t2 (v2 ∷ []))) ⊛ raw (ensured 𝓤 H A first-record-fn.ended (first-record-fn.clauses 𝓤 H A mem run) (κ0, tt) (args-first-record t1) tt t2)))) (id⊢ 𝓤 _) $ await ! tt $ pick ! (λ t2.
         split ! $ move ! (1 ∷ []) $
         use1 W (some (λ (ws2 : Unit {0} × (Unit {0} × (Unit {0} × Unit {0}))). ‵ (lasts first-record-fn.ended (κ0, tt) (args-first-record t1) ws2) ⊛ raw (fact 𝓤 (Says-first-record t1 t2)))) (id⊢ 𝓤 _) $ pick ! (λ ws2. split ! $
-        move ! (1 ∷ []) $ heard ! (Says-first-record t1 t2) (λ e2. drop ! $ split ! $ move ! (1 ∷ []) $ peeks ! FoundT.the-row (Is FoundT.the-row) (shows 𝓤 H A FoundT.the-row) t2 (v2 ∷ []) (λ is2. drop ! $
-        land ! (from ! (stop !)) (init ! 4 refl (LL.lawful FoundT.the-type FoundL.the-laws 𝓤 H A W .typed t2 _ is2 .0)) $
-        rewrite ! 4 (λ (u : Val). ‵ (fat fullShare FoundL.mir l₄ 0 u)) (ap only (LL.tells FoundT.the-type FoundL.the-laws t2 (v2 ∷ []) is2)) refl $ split ! $ move ! (1 ∷ []) $ drop ! $
-        -- `is_found`
-        nothing ! $ owned ! RecordT.the-row (Is RecordT.the-row) (EL.makes RecordT.the-type RecordL.the-plain 𝓤 H A) (t2 .place) _ (LL.owed FoundT.the-type FoundL.the-laws t2 _ is2 .0) $ fjoin ! $ nothing ! $
-        use2 W (raw (Meets-is-found 𝓤 H A mem run .pre (to-is-found t2))) (goes-is-found t2) $
-        calls-at ! fm (Meets-is-found 𝓤 H A mem run) known-is-found (to-is-found t2) (and-then ! (load ! (from ! (fld ! refl (stop !))) (look-in ! 5 (sub ! 0 refl (whole !)))) (no-more !)) (λ v3.
-        use1 W (later (some (λ (t3 : Bool). (‵ ftrue ⊛ ‵ (bool .own t3 (v3 ∷ []))) ⊛ raw (ensured 𝓤 H A is-found-fn.ended (is-found-fn.clauses 𝓤 H A mem run) tt (args-is-found t2) tt t3)))) (id⊢ 𝓤 _) $ await ! tt $ pick ! (λ t3.
-        split ! $ move ! (1 ∷ []) $ use1 W (some (λ (ws3 : Unit {0} × Unit {0}). ‵ (lasts is-found-fn.ended tt (args-is-found t2) ws3) ⊛ raw (fact 𝓤 (Says-is-found t2 t3)))) (id⊢ 𝓤 _) $ pick ! (λ ws3. split ! $ move ! (1 ∷ []) $
-        heard ! (Says-is-found t2 t3) (λ e3. drop ! $ split ! $ move ! (1 ∷ []) $ peeks ! bool (Is bool) (shows 𝓤 H A bool) t3 (v3 ∷ []) (λ is3. drop ! $
-        land ! (from ! (stop !)) (init ! 13 refl (bool-lawful 𝓤 H A W .typed t3 _ is3 .0)) $ rewrite ! 13 (λ (u : Val). ‵ (fat fullShare tyBool l₀ 0 u)) (ap only (bool-tells t3 (v3 ∷ []) is3)) refl $ drop ! $
+        move ! (1 ∷ []) $ heard ! (Says-first-record t1 t2) (λ e2. drop ! $ split ! $ move ! (1 ∷ []) $ peeks ! usize (Is usize) (shows 𝓤 H A usize) t2 (v2 ∷ []) (λ is2. drop ! $
+        land ! (from ! (stop !)) (init ! 6 refl (uint-lawful 𝓤 H A W w64 .typed t2 _ is2 .0)) $ rewrite ! 6 (λ (u : Val). ‵ (fat fullShare (tyInt w64) l₄ 0 u)) (ap only (uint-tells w64 t2 (v2 ∷ []) is2)) refl $ split ! $
+        move ! (1 ∷ []) $ drop ! $ assigns ! (of-opd ! (load ! (from ! (fld ! refl (stop !))) (look-in ! 12 (sub ! 1 refl (whole !))))) (from ! (stop !)) (init ! 2 refl (tt, record { fits = room-registry .0 })) $
+        -- `is_place`
+        nothing ! $ owned ! usize (Is usize) (uint-makes 𝓤 H A W w64) (length ys) _ (refl, room-registry .0) $ fjoin ! $
+        owned ! usize (Is usize) (uint-makes 𝓤 H A W w64) t2 _ (subst (Is usize t2) (uint-tells w64 t2 (v2 ∷ []) is2) is2) $ fjoin ! $ nothing ! $
+        use2 W (raw (Meets-is-place 𝓤 H A mem run .pre (to-is-place t2))) (goes-is-place t2) $
+        calls-at ! fm (Meets-is-place 𝓤 H A mem run) known-is-place (to-is-place t2) (and-then ! (load ! (from ! (stop !)) (look ! 7 refl)) (and-then ! (load ! (from ! (stop !)) (look ! 3 refl)) (no-more !))) (λ v3.
+        use1 W (later (some (λ (t3 : Bool). (‵ ftrue ⊛ ‵ (bool .own t3 (v3 ∷ []))) ⊛ raw (ensured 𝓤 H A is-place-fn.ended (is-place-fn.clauses 𝓤 H A mem run) tt (args-is-place t2) tt t3)))) (id⊢ 𝓤 _) $ await ! tt $ pick ! (λ t3.
+        split ! $ move ! (1 ∷ []) $ use1 W (some (λ (ws3 : Unit {0} × (Unit {0} × Unit {0})). ‵ (lasts is-place-fn.ended tt (args-is-place t2) ws3) ⊛ raw (fact 𝓤 (Says-is-place t2 t3)))) (id⊢ 𝓤 _) $ pick ! (λ ws3. split ! $
+        move ! (1 ∷ []) $ heard ! (Says-is-place t2 t3) (λ e3. drop ! $ split ! $ move ! (1 ∷ []) $ peeks ! bool (Is bool) (shows 𝓤 H A bool) t3 (v3 ∷ []) (λ is3. drop ! $
+        land ! (from ! (stop !)) (init ! 15 refl (bool-lawful 𝓤 H A W .typed t3 _ is3 .0)) $ rewrite ! 15 (λ (u : Val). ‵ (fat fullShare tyBool l₀ 0 u)) (ap only (bool-tells t3 (v3 ∷ []) is3)) refl $ drop ! $
         -- the end
-        returns ! (look ! 12 refl) $ forget ! 2 refl $ forget ! 4 refl $ forget ! 6 refl $ forget ! 8 refl $ forget ! 10 refl $ forget ! 12 refl $ move ! (12 ∷ 13 ∷ []) $ free1 ! $ move ! (10 ∷ 11 ∷ []) $ free1 ! $
-        move ! (8 ∷ 9 ∷ []) $ free1 ! $ move ! (6 ∷ 7 ∷ []) $ free1 ! $ move ! (4 ∷ 5 ∷ []) $ free1 ! $ move ! (2 ∷ 3 ∷ []) $ free1 ! $ free0 ! $ nothing ! $ move ! (1 ∷ 0 ∷ []) $ join ! $ keep ! (0 ∷ 1 ∷ []) $
-        by ! (exits t3 refl (slot-told ys _ _ _ _ _ e1 e2 e3)))))))))))))))))))))))
+        returns ! (look ! 14 refl) $ forget ! 2 refl $ forget ! 4 refl $ forget ! 6 refl $ forget ! 8 refl $ forget ! 10 refl $ forget ! 12 refl $ forget ! 14 refl $ move ! (14 ∷ 15 ∷ []) $ free1 ! $ move ! (12 ∷ 13 ∷ []) $
+        free1 ! $ move ! (10 ∷ 11 ∷ []) $ free1 ! $ move ! (8 ∷ 9 ∷ []) $ free1 ! $ move ! (6 ∷ 7 ∷ []) $ free1 ! $ move ! (4 ∷ 5 ∷ []) $ free1 ! $ move ! (2 ∷ 3 ∷ []) $ free1 ! $ free0 ! $ nothing ! $ move ! (1 ∷ 0 ∷ []) $
+        join ! $ keep ! (0 ∷ 1 ∷ []) $ by ! (exits t3 refl (slot-told ys _ _ _ _ _ e1 e2 e3))))))))))))))))))))))))
 
 module _ {M : Type 1} (𝓤 : URA M) (H : Heap 𝓤) (A : Atoms 𝓤) (W : Given 𝓤 H A) (mem : Memory → SProp 𝓤) (run : Routine → Fun 𝓤) where
-  entry-walks : (C : Calls 𝓤 H) (Λ : Loops 𝓤 H) → FmC 𝓤 H (W .laws) C → Triple 𝓤 (C #reader-marks·slot-wanted) (Meets-slot-wanted 𝓤 H A mem run) → Triple 𝓤 (C #reader-registry·first-record) (Meets-first-record 𝓤 H A mem run) → Triple 𝓤 (C #reader-marks·is-found) (Meets-is-found 𝓤 H A mem run) → Walks 𝓤 H A entry.ended stayed (WpFn 𝓤 H C Λ code.function) (entry.clauses 𝓤 H A mem run)
-  entry-walks C Λ fm known-slot-wanted known-first-record known-is-found = walked 𝓤 H A entry.ended stayed (entry.clauses 𝓤 H A mem run) (WpFn 𝓤 H C Λ code.function)
+  entry-walks : (C : Calls 𝓤 H) (Λ : Loops 𝓤 H) → FmC 𝓤 H (W .laws) C → Triple 𝓤 (C #reader-marks·slot-wanted) (Meets-slot-wanted 𝓤 H A mem run) → Triple 𝓤 (C #reader-registry·first-record) (Meets-first-record 𝓤 H A mem run) → Triple 𝓤 (C #reader-marks·is-place) (Meets-is-place 𝓤 H A mem run) → Walks 𝓤 H A entry.ended stayed (WpFn 𝓤 H C Λ code.function) (entry.clauses 𝓤 H A mem run)
+  entry-walks C Λ fm known-slot-wanted known-first-record known-is-place = walked 𝓤 H A entry.ended stayed (entry.clauses 𝓤 H A mem run) (WpFn 𝓤 H C Λ code.function)
       (λ κs. (slice-vals, (uint-vals w64, (uint-vals w64, tt)))) (λ κs. (shr-slice-tells (named 0) (κs .0) SharedReadMarkT.the-row, (uint-tells w64, (uint-tells w64, tt))))
       (λ κs qs bounds a g are. via 𝓤 _ (fst∗ 𝓤 _ (emp 𝓤))
-      (walk 𝓤 H A W mem run (κs .0) (qs .0) (a .0 .ptr .0) (a .0 .ptr .1) (a .0 .name) (a .0 .now) (a .1 .0) (a .1 .1 .0) (are .0 .0 .1) (are .1 .0 .1) (are .1 .1 .0 .1) C Λ fm known-slot-wanted known-first-record known-is-found))
+      (walk 𝓤 H A W mem run (κs .0) (qs .0) (a .0 .ptr .0) (a .0 .ptr .1) (a .0 .name) (a .0 .now) (a .1 .0) (a .1 .1 .0) (are .0 .0 .1) (are .1 .0 .1) (are .1 .1 .0 .1) C Λ fm known-slot-wanted known-first-record known-is-place))
 
 entry-meets : {M : Type 1} (𝓤 : URA M) (H : Heap 𝓤) (A : Atoms 𝓤) (W : Given 𝓤 H A) (mem : Memory → SProp 𝓤) (run : Routine → Fun 𝓤) (𝓣 : Tables 𝓤 H)
-    → Triple 𝓤 (𝓣 .C #reader-marks·slot-wanted) (Meets-slot-wanted 𝓤 H A mem run) → Triple 𝓤 (𝓣 .C #reader-registry·first-record) (Meets-first-record 𝓤 H A mem run) → Triple 𝓤 (𝓣 .C #reader-marks·is-found) (Meets-is-found 𝓤 H A mem run) → Meets 𝓤 H A entry.signature (WpFn 𝓤 H (𝓣 .C) (𝓣 .Λ) code.function) (entry.spec 𝓤 H A mem run)
-entry-meets 𝓤 H A W mem run 𝓣 known-slot-wanted known-first-record known-is-found =
+    → Triple 𝓤 (𝓣 .C #reader-marks·slot-wanted) (Meets-slot-wanted 𝓤 H A mem run) → Triple 𝓤 (𝓣 .C #reader-registry·first-record) (Meets-first-record 𝓤 H A mem run) → Triple 𝓤 (𝓣 .C #reader-marks·is-place) (Meets-is-place 𝓤 H A mem run) → Meets 𝓤 H A entry.signature (WpFn 𝓤 H (𝓣 .C) (𝓣 .Λ) code.function) (entry.spec 𝓤 H A mem run)
+entry-meets 𝓤 H A W mem run 𝓣 known-slot-wanted known-first-record known-is-place =
     walk-meets 𝓤 H A entry.ended stayed W (goes-none-slice 𝓤 H A W 1 (0 ∷ []) tt (plain (λ _. SharedReadMarkT.the-row)) yes, (goes-none 𝓤 H A W 1 (λ _. usize) yes (λ κs x f. refl), (goes-none 𝓤 H A W 1 (λ _. usize) yes (λ κs x f. refl), tt))) (entry.clauses 𝓤 H A mem run)
-    (WpFn 𝓤 H (𝓣 .C) (𝓣 .Λ) code.function) (WpFn-mono 𝓤 H (W .laws) 𝓣 code.function) (entry-walks 𝓤 H A W mem run (𝓣 .C) (𝓣 .Λ) (fmOf 𝓤 H (W .laws) 𝓣) known-slot-wanted known-first-record known-is-found)
+    (WpFn 𝓤 H (𝓣 .C) (𝓣 .Λ) code.function) (WpFn-mono 𝓤 H (W .laws) 𝓣 code.function) (entry-walks 𝓤 H A W mem run (𝓣 .C) (𝓣 .Λ) (fmOf 𝓤 H (W .laws) 𝓣) known-slot-wanted known-first-record known-is-place)
 
 pub slot-is-shared-spec : {M : Type 1} → stated.statement M
 unfolding code.routine tablesOf
@@ -237,4 +234,4 @@ slot-is-shared-spec 𝓤 H 𝓜 𝓖 𝓡 =
     (entry-meets 𝓤 H (𝓖 .A) (givenOf 𝓤 H 𝓜 𝓖) (𝓜 .mem) (𝓡 .run) (tablesOf 𝓤 H 𝓜 (tables 𝓤 H 𝓜 𝓡 code.env))
     (cited 𝓤 H (Meets-slot-wanted 𝓤 H (𝓖 .A) (𝓜 .mem) (𝓡 .run)) 𝓜 𝓡 code.env #reader-marks·slot-wanted slot-wanted-def.routine code.calls-reader-marks·slot-wanted (slot-wanted-thm.met 𝓤 H 𝓜 𝓖 𝓡))
     (cited 𝓤 H (Meets-first-record 𝓤 H (𝓖 .A) (𝓜 .mem) (𝓡 .run)) 𝓜 𝓡 code.env #reader-registry·first-record first-record-def.routine code.calls-reader-registry·first-record (first-record-thm.met 𝓤 H 𝓜 𝓖 𝓡))
-    (cited 𝓤 H (Meets-is-found 𝓤 H (𝓖 .A) (𝓜 .mem) (𝓡 .run)) 𝓜 𝓡 code.env #reader-marks·is-found is-found-def.routine code.calls-reader-marks·is-found (is-found-thm.met 𝓤 H 𝓜 𝓖 𝓡)))
+    (cited 𝓤 H (Meets-is-place 𝓤 H (𝓖 .A) (𝓜 .mem) (𝓡 .run)) 𝓜 𝓡 code.env #reader-marks·is-place is-place-def.routine code.calls-reader-marks·is-place (is-place-thm.met 𝓤 H 𝓜 𝓖 𝓡)))

@@ -1,4 +1,4 @@
--- `c_readers::reader_calls::wal_register_db_file_reader` meets its contract: a walk of its MIR, printed by tools/walk. All that it knows of `wal_register_reader_for_snapshot` is that each meets its contract. Assumes nothing.
+-- `c_db_file_reader::wal_register_db_file_reader` meets its contract: a walk of its MIR, printed by tools/walk. All that it knows of `wal_register_reader_for_snapshot` is that each meets its contract. Assumes nothing.
 use mathlib.Core.Path.{_≡_, refl, ap, subst}
 use Prim.Native.Nat.{ℕ, _<_, _^_, min}
 use mathlib.Core.Bool.{Bool}
@@ -45,10 +45,10 @@ use denote.Triple.Clauses.{ensured, lasts}
 use denote.Triple.Spec.{Meets, tripleOf}
 use denote.Triple.Table.{entered, cited}
 use denote.Triple.Walked.{says, Stays, gave-slice, stay-none, stay-none-slice, stay-ref, walkOf, Walks, ends-at, walked, goes-gave-slice, goes-none, goes-none-slice, goes-ref, walk-meets}
-use Rattle.reader_shared.specs.Shared.{register-reader-for-snapshot, register-db-file-reader}
+use Rattle.reader_shared.specs.Shared.{register-db-file-reader, register-reader-for-snapshot}
 use Rattle.c_numbers.specs.Mode.{mode-given, with-mode}
 use Rattle.c_reader_replies.specs.ReaderReply.{reader-reply}
 use Rattle.c_readers.specs.ReaderReplied.{RegistryReplied}
 use Rattle.wal_types.specs.declared.SharedReadMark.{SharedReadMark}
 use Rattle.wal_types.proofs.SharedReadMark as SharedReadMarkT
 use Rattle.wal_types.proofs.SharedReadMark.Laws as SharedReadMarkL
@@ -58,14 +58,14 @@ use Rattle.wal_types.proofs.SharedOwnerRecord.Laws as SharedOwnerRecordL
 use Rattle.c_reader_replies.specs.declared.ReaderReply.{ReaderReply}
 use Rattle.c_reader_replies.proofs.ReaderReply as ReaderReplyT
 use Rattle.c_reader_replies.proofs.ReaderReply.Laws as ReaderReplyL
 use Rattle.c_readers.proofs.reader_calls.wal_register_reader_for_snapshot as wal-register-reader-for-snapshot-fn
 use Rattle.c_readers.proofs.reader_calls.wal_register_reader_for_snapshot.Symbol as wal-register-reader-for-snapshot-def
 use Rattle.c_readers.proofs.reader_calls.wal_register_reader_for_snapshot.Symbol.{name as #c-readers·reader-calls·wal-register-reader-for-snapshot}
 use Rattle.c_readers.proofs.reader_calls.wal_register_reader_for_snapshot.Met as wal-register-reader-for-snapshot-thm
-use Rattle.c_readers.proofs.reader_calls.wal_register_db_file_reader.Key.{name as #c-readers·reader-calls·wal-register-db-file-reader}
-use Rattle.c_readers.proofs.reader_calls.wal_register_db_file_reader as entry
-use Rattle.c_readers.proofs.reader_calls.wal_register_db_file_reader.Statement as stated
-use Rattle.c_readers.proofs.reader_calls.wal_register_db_file_reader.Code as code
+use Rattle.c_db_file_reader.proofs.wal_register_db_file_reader.Key.{name as #c-db-file-reader·wal-register-db-file-reader}
+use Rattle.c_db_file_reader.proofs.wal_register_db_file_reader as entry
+use Rattle.c_db_file_reader.proofs.wal_register_db_file_reader.Statement as stated
+use Rattle.c_db_file_reader.proofs.wal_register_db_file_reader.Code as code
 
 abbrev stayed : Stays (entry.ended .signature .params) (entry.ended .kept)
 stayed = (stay-none (λ _. usize) yes, (stay-none (λ _. u32) yes, (gave-slice (0 ∷ []) tt (plain (λ _. u64)), (gave-slice (1 ∷ []) tt (plain (λ _. u64)), (gave-slice (2 ∷ []) tt (plain (λ _. u64)), (gave-slice (3 ∷ []) tt (plain (λ _. u64)), (gave-slice (4 ∷ []) tt (plain (λ _. SharedReadMarkT.the-row)), (stay-none-slice (5 ∷ []) tt (plain (λ _. u8)) yes, (stay-none (λ _. u64) yes, tt)))))))))
@@ -189,6 +189,6 @@ pub wal-register-db-file-reader-spec : {M : Type 1} → stated.statement M
 unfolding code.routine tablesOf
 wal-register-db-file-reader-spec 𝓤 H 𝓜 𝓖 𝓡 =
     entered 𝓤 H (tripleOf 𝓤 H (𝓖 .A) entry.signature (entry.spec 𝓤 H (𝓖 .A) (𝓜 .mem) (𝓡 .run)))
-    (tables 𝓤 H 𝓜 𝓡 code.env .C) (tables 𝓤 H 𝓜 𝓡 code.env .Λ) #c-readers·reader-calls·wal-register-db-file-reader code.function (code.unfolded 𝓤 H 𝓜 𝓡)
+    (tables 𝓤 H 𝓜 𝓡 code.env .C) (tables 𝓤 H 𝓜 𝓡 code.env .Λ) #c-db-file-reader·wal-register-db-file-reader code.function (code.unfolded 𝓤 H 𝓜 𝓡)
     (entry-meets 𝓤 H (𝓖 .A) (givenOf 𝓤 H 𝓜 𝓖) (𝓜 .mem) (𝓡 .run) (tablesOf 𝓤 H 𝓜 (tables 𝓤 H 𝓜 𝓡 code.env))
     (cited 𝓤 H (Meets-wal-register-reader-for-snapshot 𝓤 H (𝓖 .A) (𝓜 .mem) (𝓡 .run)) 𝓜 𝓡 code.env #c-readers·reader-calls·wal-register-reader-for-snapshot wal-register-reader-for-snapshot-def.routine code.calls-c-readers·reader-calls·wal-register-reader-for-snapshot (wal-register-reader-for-snapshot-thm.met 𝓤 H 𝓜 𝓖 𝓡)))
