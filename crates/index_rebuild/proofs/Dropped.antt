@@ -12,8 +12,8 @@ use lib.Pow.{pow-pos, shr-shr}
 use lib.Seq.{getD-set-same, getD-set-other}
 use borrow.Author.Tests.{eqb-true, eq-eqb, ne-eqb}
 use Rattle.wal_types.specs.Memory.{bit-at}
-use Rattle.reader_bitmap.specs.Bit.{clear-bit}
-use Rattle.reader_bitmap.proofs.Bits.{clear-other, clear-le}
+use Rattle.word_bits.specs.Bit.{clear-bit}
+use Rattle.word_bits.proofs.Bits.{clear-other, clear-le}
 use Rattle.index_hash.specs.declared.Cell.the-variants.{Empty}
 use Rattle.index_hash.specs.Home.{home}
 use Rattle.index_hash.specs.Block.{empty-from, empty-cell}

@@ -7,7 +7,7 @@ use native.Mathlib.Omega.{arith}
 use lib.ListN.{getD}
 use lib.Pow.{shr-shr}
 use Rattle.wal_types.specs.Memory.{bit-at}
-use Rattle.reader_bitmap.proofs.Bits.{zero-bits}
+use Rattle.word_bits.proofs.Bits.{zero-bits}
 use Rattle.index_search.specs.InnerRun.{All}
 use Rattle.index_search.proofs.Runs.{all-join, all-within}
 use Rattle.index_rebuild.specs.InnerMap.{Clear, ClearWord, ClearCell, Way, WordsTell}

@@ -7,7 +7,7 @@ use Prim.Native.Nat.{ℕ, _+_, _-_, _/_, _%_, _<_, _≤_}
 use lib.Dec.{eqb}
 use lib.ListN.{length, getD, set}
 use Rattle.wal_types.specs.Memory.{bit-at}
-use Rattle.reader_bitmap.specs.Bit.{clear-bit}
+use Rattle.word_bits.specs.Bit.{clear-bit}
 use Rattle.index_search.specs.InnerRun.{All, Used}
 
 -- a bit of a word is 0

@@ -26,7 +26,7 @@ fn lowest_from(word: u64, i: u32) -> u32
     requires { ⌜ i < 64 ⌝ }
     ensures { λ r. ⌜ ((i ≤ r) × (r ≤ 64)) × All (Clear word) i r ⌝ }
 {
-    let bit = i + reader_bitmap::lowest_bit(word >> i);
+    let bit = i + word_bits::lowest_bit(word >> i);
     if 64 <= bit {
         return 64;
     }
@@ -43,13 +43,13 @@ fn next_word(low: u64, high: u64, from: usize) -> usize
         if bit < 64 {
             return bit as usize;
         }
-        return 64 + reader_bitmap::lowest_bit(high) as usize;
+        return 64 + word_bits::lowest_bit(high) as usize;
     }
     let bit = lowest_from(high, (from - 64) as u32);
     if bit < 64 {
         return 64 + bit as usize;
     }
-    let first = reader_bitmap::lowest_bit(low);
+    let first = word_bits::lowest_bit(low);
     if 64 <= first {
         return CELL_WORDS;
     }
@@ -70,7 +70,7 @@ fn next_cell(map: &[u64], home: usize) -> usize
     if CELL_WORDS <= next {
         return BLOCK_CELLS;
     }
-    64 * next + reader_bitmap::lowest_bit(map[next]) as usize
+    64 * next + word_bits::lowest_bit(map[next]) as usize
 }
 
 // The bit of a used cell becomes 0, and with the last one of a word the word's own.
@@ -79,13 +79,13 @@ pub fn drop_cell(map: &mut [u64], cell: usize)
     ensures { λ _. ⌜ now (map .exit) ≡ without-cell (now (map .entry)) cell ⌝ }
 {
     let word = cell / 64;
-    let left = reader_bitmap::without_bit(map[word], (cell % 64) as u32);
+    let left = word_bits::without_bit(map[word], (cell % 64) as u32);
     map[word] = left;
     if left != 0 {
         return;
     }
     let at = LOW_WORDS + word / 64;
-    map[at] = reader_bitmap::without_bit(map[at], (word % 64) as u32);
+    map[at] = word_bits::without_bit(map[at], (word % 64) as u32);
 }
 
 // The cell where the page's entry goes, by the map. A cell that the map did not know to be used is dropped from it, each once,

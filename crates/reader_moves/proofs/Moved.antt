@@ -15,8 +15,8 @@ use Rattle.wal_types.specs.Memory.{Memory, Process, slot-bit, to-reader-frame}
 use Rattle.wal_types.specs.Store.{apply, one}
 use Rattle.wal_types.specs.Refusal.{lowest}
 use Rattle.wal_types.specs.Call.{ok, refused, slot-taken, Done, after, does}
-use Rattle.reader_bitmap.specs.Bit.{set-bit}
-use Rattle.reader_bitmap.proofs.Bits.{set-same}
+use Rattle.word_bits.specs.Bit.{set-bit}
+use Rattle.word_bits.proofs.Bits.{set-same}
 use Rattle.reader_slots.specs.Slots.{short-slots, in-registry, held, with-local, empty-slot}
 use Rattle.reader_slots.specs.Inner.{slots-refusal}
 use Rattle.reader_moves.specs.Update.{not-shared-owner, not-owner, update-tests, update-reader, release-tests, releases-slot, unregister-reader}

@@ -17,8 +17,8 @@ use Rattle.wal_types.specs.Memory.{Memory, Process, slot-bit}
 use Rattle.wal_types.specs.Store.{apply, when}
 use Rattle.wal_types.specs.Refusal.{lowest}
 use Rattle.wal_types.specs.Call.{refused, slot-taken, accepted-or, Done, after, done}
-use Rattle.reader_bitmap.specs.Bit.{clear-bit}
-use Rattle.reader_bitmap.proofs.Bits.{clear-same}
+use Rattle.word_bits.specs.Bit.{clear-bit}
+use Rattle.word_bits.proofs.Bits.{clear-same}
 use Rattle.reader_slots.specs.declared.slots.Slot.{Slot}
 use Rattle.reader_slots.specs.declared.slots.Slot.the-variants.{At, Nothing}
 use Rattle.reader_slots.specs.Slots.{held, is-free, granted, take-slot, empty-slot, empty-slots}

@@ -39,7 +39,7 @@ fn take_slot(
     ensures { λ _. ⌜ SlotsBecome (λ m p. apply (take-slot slot (owner .0) mark m) m) (now (bitmap .entry)) (now («reader_frames» .entry)) (now («reader_owners» .entry)) (now («local_readers» .entry)) (now (bitmap .exit)) (now («reader_frames» .exit)) (now («reader_owners» .exit)) × (now («local_readers» .exit) ≡ set (now («local_readers» .entry)) slot (owner .0)) ⌝ }
 {
     let word = slot / 64;
-    bitmap[word] = reader_bitmap::without_bit(bitmap[word], (slot % 64) as u32);
+    bitmap[word] = word_bits::without_bit(bitmap[word], (slot % 64) as u32);
     reader_owners[slot] = owner.0;
     reader_frames[slot] = mark;
     local_readers[slot] = owner.0;

@@ -50,7 +50,7 @@ pub fn stale_slot(
     ensures { λ r. ⌜ r ≡ lowest-slot (stale-by mode (now (card .entry)) (now (bitmap .entry)) (now («reader_owners» .entry)) (now («local_readers» .entry))) n 0 ⌝ }
 {
     for slot in 0..n {
-        let bit = reader_bitmap::bit(bitmap[slot / 64], (slot % 64) as u32);
+        let bit = word_bits::bit(bitmap[slot / 64], (slot % 64) as u32);
         if is_stale(
             mode,
             bit,
@@ -77,7 +77,7 @@ fn try_reclaim_stale_reader_slot(
     requires { ⌜ (slot / 64 < length (now bitmap)) × ((slot < length (now «reader_frames»)) × ((slot < length (now «reader_owners»)) × ((slot < length (now «local_readers»)) × (slot < length (now card))))) ⌝ }
     ensures { λ _. ⌜ SlotsBecome (λ m p. emptied-if mode (reclaimable mode (now (card .entry)) p m slot) slot m) (now (bitmap .entry)) (now («reader_frames» .entry)) (now («reader_owners» .entry)) (now («local_readers» .entry)) (now (bitmap .exit)) (now («reader_frames» .exit)) (now («reader_owners» .exit)) ⌝ }
 {
-    let bit = reader_bitmap::bit(bitmap[slot / 64], (slot % 64) as u32);
+    let bit = word_bits::bit(bitmap[slot / 64], (slot % 64) as u32);
     if !is_stale(
         mode,
         bit,

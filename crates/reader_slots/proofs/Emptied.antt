@@ -12,7 +12,7 @@ use Rattle.wal_types.specs.declared.SharedWalOwnershipMode.the-variants.{LinuxO
 use Rattle.wal_types.specs.Settings.{unused}
 use Rattle.wal_types.specs.Memory.{Memory}
 use Rattle.wal_types.specs.Store.{apply, when}
-use Rattle.reader_bitmap.specs.Bit.{set-bit, clear-bit}
+use Rattle.word_bits.specs.Bit.{set-bit, clear-bit}
 use Rattle.reader_slots.specs.Slots.{take-slot, empty-slot, empty-slots, slots-in}
 use Rattle.reader_slots.specs.Inner.{emptied-if}
 use Rattle.reader_slots.proofs.Calls.{apply-append}

@@ -8,8 +8,8 @@ use native.Mathlib.Omega.{arith}
 use lib.Dec.{eqb}
 use lib.ListN.{getD}
 use Rattle.wal_types.specs.Memory.{bit-at}
-use Rattle.reader_bitmap.specs.Bit.{clear-bit, Lowest}
-use Rattle.reader_bitmap.proofs.Bits.{clear-same, clear-other, clear-less}
+use Rattle.word_bits.specs.Bit.{clear-bit, Lowest}
+use Rattle.word_bits.proofs.Bits.{clear-same, clear-other, clear-less}
 use Rattle.reader_slots.specs.declared.slots.Slot.{Slot}
 use Rattle.reader_slots.specs.declared.slots.Slot.the-variants.{At, Nothing}
 use Rattle.reader_slots.specs.Search.{lowest-slot}

@@ -14,8 +14,8 @@ use Rattle.wal_types.specs.declared.SharedWalOwnershipMode.the-variants.{LinuxO
 use Rattle.wal_types.specs.Settings.{unused}
 use Rattle.wal_types.specs.Memory.{Memory, bit-at, slot-bit, Store, to-reader-frame, to-reader-owner, put}
 use Rattle.wal_types.specs.Store.{apply, when}
-use Rattle.reader_bitmap.specs.Bit.{set-bit, clear-bit}
-use Rattle.reader_bitmap.proofs.Bits.{set-same, set-other, clear-other}
+use Rattle.word_bits.specs.Bit.{set-bit, clear-bit}
+use Rattle.word_bits.proofs.Bits.{set-same, set-other, clear-other}
 use Rattle.reader_slots.specs.Slots.{free-bit, take-bit, take-slot, empty-slot, empty-slots}
 use Rattle.reader_slots.specs.Inner.{emptied-if}
 use Rattle.reader_slots.proofs.Calls.{apply-append}

@@ -12,7 +12,7 @@ use Rattle.wal_types.specs.Settings.{words-for, unused}
 use Rattle.wal_types.specs.Memory.{Memory, Process, with-slots, with-local-readers, slot-bit, no-mark, to-bitmap, to-reader-frame, to-reader-owner}
 use Rattle.wal_types.specs.Call.{Call, Carried, Answer, after, done}
 use Rattle.wal_types.specs.Store.{Piece, one, when, _then_}
-use Rattle.reader_bitmap.specs.Bit.{set-bit, clear-bit}
+use Rattle.word_bits.specs.Bit.{set-bit, clear-bit}
 
 -- Refusal 2: fewer bitmap words, slot frames, slot owners or local owners than n slots have.
 abbrev pub shorter : ℕ → ℕ → ℕ → ℕ → ℕ → Bool

@@ -27,7 +27,7 @@ fn slot_in_word(word: u64, first: usize, end: usize, local_readers: &[u64], card
 {
     let mut left = word;
     while left != 0 {
-        let bit = reader_bitmap::lowest_bit(left);
+        let bit = word_bits::lowest_bit(left);
         let slot = first + bit as usize;
         if end <= slot {
             return Slot::Nothing;
@@ -35,7 +35,7 @@ fn slot_in_word(word: u64, first: usize, end: usize, local_readers: &[u64], card
         if can_lock(SharedOwnerRecord(local_readers[slot]), card[slot]) {
             return Slot::At(slot);
         }
-        left = reader_bitmap::without_bit(left, bit);
+        left = word_bits::without_bit(left, bit);
     }
     Slot::Nothing
 }

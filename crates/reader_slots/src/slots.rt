@@ -12,7 +12,7 @@ ghost use lib.ListN.{length, getD, set};
 ghost use Rattle.wal_types.specs.Settings.{is-fcntl};
 ghost use Rattle.wal_types.specs.Memory.{Memory};
 ghost use Rattle.wal_types.specs.Store.{apply};
-ghost use Rattle.reader_bitmap.specs.Bit.{set-bit};
+ghost use Rattle.word_bits.specs.Bit.{set-bit};
 ghost use Rattle.reader_slots.specs.Slots.{bad-card, empty-slot, slots-in};
 ghost use Rattle.reader_slots.specs.Inner.{slots-refusal, registry-refusal, reader-refusal, greatest};
 
@@ -145,7 +145,7 @@ fn free_bit(bitmap: &mut [u64], slot: usize)
     ensures { λ _. ⌜ now (bitmap .exit) ≡ set (now (bitmap .entry)) (slot / 64) (set-bit (getD (now (bitmap .entry)) (slot / 64) 0) (slot % 64)) ⌝ }
 {
     let word = slot / 64;
-    bitmap[word] = reader_bitmap::with_bit(bitmap[word], (slot % 64) as u32);
+    bitmap[word] = word_bits::with_bit(bitmap[word], (slot % 64) as u32);
 }
 
 // Empties a slot, on release or when it is reclaimed: frame UNUSED, owner 0, bit 1, in the mode's order.

@@ -13,7 +13,7 @@ use Rattle.wal_types.specs.declared.SharedWalOwnershipMode.the-variants.{LinuxO
 use Rattle.wal_types.specs.Settings.{unused}
 use Rattle.wal_types.specs.Memory.{Memory, Process, with-header, with-local-readers, with-registry, no-mark, blank-process, slot-bit, bit-at, header-with, frame-index-len, max-frame, transaction-count, visibility-generation}
 use Rattle.wal_types.specs.Call.{Pair, pair, Answer, refused, ok, value, stored, kept, frame-found, listed, slot-taken, accepted, Done, done, after}
-use Rattle.reader_bitmap.specs.Bit.{clear-bit}
+use Rattle.word_bits.specs.Bit.{clear-bit}
 use Rattle.header_publish.specs.Publish.{publish-commit}
 use Rattle.wal_types.specs.Fresh.{fresh-header}
 use Rattle.index_end.specs.declared.cells.IndexCells.{IndexCells}

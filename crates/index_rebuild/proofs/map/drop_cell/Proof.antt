@@ -6,7 +6,7 @@ use Rattle.index_rebuild.proofs.map.drop_cell.Statement.{statement}
 use Rattle.index_rebuild.proofs.map.drop_cell.Tie as tie
 use Rattle.index_rebuild.proofs.map.drop_cell.Reads as reads
 use Rattle.index_rebuild.proofs.map.drop_cell.Lts as lts
-use Rattle.reader_bitmap.proofs.without_bit.Reads as without-bit-reads
+use Rattle.word_bits.proofs.without_bit.Reads as without-bit-reads
 
 -- src/map.rt:78:43
 mul-without-bit : tie.Need-mul-without-bit

@@ -5,7 +5,7 @@ use Rattle.index_rebuild.proofs.map.lowest_from.Statement.{statement}
 use Rattle.index_rebuild.proofs.map.lowest_from.Tie as tie
 use Rattle.index_rebuild.proofs.map.lowest_from.Reads as reads
 use Rattle.index_rebuild.proofs.map.lowest_from.Lts as lts
-use Rattle.reader_bitmap.proofs.lowest_bit.Reads as lowest-bit-reads
+use Rattle.word_bits.proofs.lowest_bit.Reads as lowest-bit-reads
 
 -- src/map.rt:25:45
 shr-lowest-bit : tie.Need-shr-lowest-bit

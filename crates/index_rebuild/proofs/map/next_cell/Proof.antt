@@ -9,7 +9,7 @@ use Rattle.index_rebuild.proofs.map.next_cell.Reads as reads
 use Rattle.index_rebuild.proofs.map.next_cell.Lts as lts
 use Rattle.index_rebuild.proofs.map.lowest_from.Reads as lowest-from-reads
 use Rattle.index_rebuild.proofs.map.next_word.Reads as next-word-reads
-use Rattle.reader_bitmap.proofs.lowest_bit.Reads as lowest-bit-reads
+use Rattle.word_bits.proofs.lowest_bit.Reads as lowest-bit-reads
 
 -- src/map.rt:61:27
 mul-lowest-from : tie.Need-mul-lowest-from

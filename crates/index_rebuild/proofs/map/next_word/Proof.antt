@@ -9,7 +9,7 @@ use Rattle.index_rebuild.proofs.map.next_word.Tie as tie
 use Rattle.index_rebuild.proofs.map.next_word.Reads as reads
 use Rattle.index_rebuild.proofs.map.next_word.Lts as lts
 use Rattle.index_rebuild.proofs.map.lowest_from.Reads as lowest-from-reads
-use Rattle.reader_bitmap.proofs.lowest_bit.Reads as lowest-bit-reads
+use Rattle.word_bits.proofs.lowest_bit.Reads as lowest-bit-reads
 
 -- src/map.rt:38:36
 cast-lowest-from : tie.Need-cast-lowest-from

@@ -2,8 +2,8 @@ use Prim.Native.Nat.{_/_, _^_}
 use lib.Bits.{and-mask}
 use Rattle.wal_types.specs.Memory.{bit-at}
 use borrow.Author.Needs.{needs}
-use Rattle.reader_bitmap.proofs.bit.Statement.{statement}
-use Rattle.reader_bitmap.proofs.bit.Tie as tie
+use Rattle.word_bits.proofs.bit.Statement.{statement}
+use Rattle.word_bits.proofs.bit.Tie as tie
 
 shr-result : tie.Need-shr-result
 shr-result c = search needs

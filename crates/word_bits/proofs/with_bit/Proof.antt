@@ -1,9 +1,9 @@
 use mathlib.Core.Path.{ap, _∙_}
 use lib.Bits.{bitOr}
-use Rattle.reader_bitmap.proofs.Bits.{shifted, or-pow}
+use Rattle.word_bits.proofs.Bits.{shifted, or-pow}
 use borrow.Author.Needs.{needs}
-use Rattle.reader_bitmap.proofs.with_bit.Statement.{statement}
-use Rattle.reader_bitmap.proofs.with_bit.Tie as tie
+use Rattle.word_bits.proofs.with_bit.Statement.{statement}
+use Rattle.word_bits.proofs.with_bit.Tie as tie
 
 shl-result : tie.Need-shl-result
 shl-result c = search needs

@@ -1,8 +1,8 @@
-// One bit of a word of the reader bitmap: tested, set and cleared by a mask; and the lowest bit that is set.
+// One bit of a word: tested, set and cleared by a mask; and the lowest bit that is set.
 ghost use mathlib.Core.Path.{_≡_};
 ghost use Prim.Native.Nat.{_<_};
 ghost use Rattle.wal_types.specs.Memory.{bit-at};
-ghost use Rattle.reader_bitmap.specs.Bit.{set-bit, clear-bit, Lowest};
+ghost use Rattle.word_bits.specs.Bit.{set-bit, clear-bit, Lowest};
 
 // Bit i of the word, 0 or 1.
 pub fn bit(word: u64, i: u32) -> u64

@@ -9,7 +9,7 @@ use lib.Pow.{pow-pos, pow-lt, pow-add, shl-exact, shr-shr}
 use lib.Bits.{bitAnd, bitOr, and-step, or-add-and, or-lt, and-mask, and-high, and-shr}
 use lib.Count.{trailingZeros, under, trailing-le}
 use Rattle.wal_types.specs.Memory.{bit-at}
-use Rattle.reader_bitmap.specs.Bit.{set-bit, clear-bit, Lowest}
+use Rattle.word_bits.specs.Bit.{set-bit, clear-bit, Lowest}
 
 pub bit-lt : (n i : ℕ) → bit-at n i < 2
 unfolding bit-at

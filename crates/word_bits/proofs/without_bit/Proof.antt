@@ -2,10 +2,10 @@ use mathlib.Core.Path.{ap, _∙_}
 use Prim.Native.Nat.{ℕ, _-_}
 use native.Mathlib.Omega.{arith}
 use lib.Bits.{bitAnd}
-use Rattle.reader_bitmap.proofs.Bits.{shifted, and-not}
+use Rattle.word_bits.proofs.Bits.{shifted, and-not}
 use borrow.Author.Needs.{needs}
-use Rattle.reader_bitmap.proofs.without_bit.Statement.{statement}
-use Rattle.reader_bitmap.proofs.without_bit.Tie as tie
+use Rattle.word_bits.proofs.without_bit.Statement.{statement}
+use Rattle.word_bits.proofs.without_bit.Tie as tie
 
 shl-result : tie.Need-shl-result
 shl-result c = search needs

@@ -1,9 +1,0 @@
-use Rattle.reader_bitmap.proofs.Bits.{lowest-of}
-use Rattle.reader_bitmap.proofs.lowest_bit.Statement.{statement}
-use Rattle.reader_bitmap.proofs.lowest_bit.Tie as tie
-
-returns : tie.Need-returns
-returns c = lowest-of (c .args .word)
-
-pub lowest-bit-spec : {M : Type 1} → statement M
-lowest-bit-spec = tie.close (tie.spec returns)

@@ -1,2 +1,0 @@
--- Bits of a word of the reader bitmap.
-pub mod Bit
