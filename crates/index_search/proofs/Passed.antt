@@ -17,7 +17,7 @@ use Rattle.index_hash.specs.Block.{empty-from, empty-cell, probe-from, probe}
 use Rattle.index_hash.proofs.Empty.{by-test}
 use Rattle.index_hash.proofs.Turns.{none-left, at-used, at-empty, probe-at-live}
 use Rattle.index_search.proofs.Runs.{one-at-least}
-use Rattle.index_search.specs.InnerRun.{All, Live, Used, page-named, Other, met-in}
+use Rattle.index_search.specs.InnerRun.{All, Live, Used, page-named, Other, met-in, entry-named}
 
 same-test : (t : Bool) (a x y : Cell) (c : ℕ) → (x ≡ Empty c → y ≡ Empty c) → cond t a x ≡ Empty c → cond t a y ≡ Empty c
 same-test true a x y c f e = e
@@ -208,3 +208,8 @@ dead-empty h c b dead = go (getD h c 0) b dead
     go : (x : ℕ) → x ≤ 65535 → ((1 ≤ x) × (x ≤ 65535) → ⊥) → x ≡ 0
     go zero b dead = refl
     go (suc x) b dead = absurd (dead (omega arith, b))
+
+-- a used cell's number names an entry
+pub named-used : (x : ℕ) → (x ≡ 0 → ⊥) → entry-named x ≡ At (x - 1)
+named-used zero used = absurd (used refl)
+named-used (suc i) used = let e : suc i - 1 ≡ i = omega arith in rw e

@@ -7,7 +7,8 @@ use Prim.Native.Nat.{ℕ, zero, suc, _+_, _-_, _<_, _≤_}
 use lib.Dec.{eqb}
 use lib.ListN.{getD}
 use Rattle.index_hash.specs.declared.Probe.{Probe}
-use Rattle.index_hash.specs.declared.Probe.the-variants.{At}
+use Rattle.index_hash.specs.declared.Probe.the-variants.{At, Nothing}
+use Rattle.wal_types.specs.Settings.{block-cells}
 use Rattle.index_search.specs.declared.probe.Near.{Near}
 use Rattle.index_search.specs.declared.probe.Near.the-variants.{Ended, Further}
 
@@ -39,6 +40,15 @@ Other h pages page c = page-named h pages c ≡ page → ⊥
 unfoldable pub met-in : List ℕ → List ℕ → ℕ → ℕ → ℕ → Probe → Probe
 met-in h pages page from zero before = before
 met-in h pages page from (suc n) before = cond (eqb (page-named h pages (from + n)) page) (At (getD h (from + n) 0 - 1)) (met-in h pages page from n before)
+
+-- the entry that a cell's number names
+abbrev pub entry-named : ℕ → Probe
+entry-named zero = Nothing
+entry-named (suc i) = At i
+
+-- the near cells from a home on are within the block
+abbrev pub NearFit : ℕ → Type 0
+NearFit home = home + 24 ≤ block-cells
 
 -- a probe of the near cells has ended with the whole probe's answer, or there are further ones
 abbrev pub Answers : Probe → Near → Type 0

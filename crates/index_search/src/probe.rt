@@ -3,14 +3,14 @@ use crate::run;
 use index_hash::BLOCK_CELLS;
 use index_hash::Probe;
 ghost use mathlib.Core.Path.{_≡_};
-ghost use mathlib.Core.Bool.{true, not};
+ghost use mathlib.Core.Bool.{true, false, not};
 ghost use Prim.Native.Nat.{_+_, _-_, _<_, _≤_};
 ghost use lib.Dec.{eqb};
 ghost use lib.ListN.{length};
 ghost use Rattle.wal_types.specs.Settings.{block-entries, block-cells};
 ghost use Rattle.index_hash.specs.Home.{home};
 ghost use Rattle.index_hash.specs.Block.{probe};
-ghost use Rattle.index_search.specs.InnerRun.{All, Live, page-named, Other, met-in, Answers};
+ghost use Rattle.index_search.specs.InnerRun.{All, Live, page-named, Other, met-in, entry-named, NearFit, Answers};
 
 // How many cells are looked at one by one before many are at once.
 const NEAR_CELLS: usize = 24;
@@ -24,30 +24,47 @@ pub enum Near {
     Further,
 }
 
+// Whether the near cells from this home on would go round the block's end.
+pub fn is_home_late(home: usize) -> bool
+    ensures { λ r. ⌜ (r ≡ false → NearFit home) ⌝ }
+{
+    BLOCK_CELLS - NEAR_CELLS < home
+}
+
+// The entry that a cell's number names.
+fn entry_named(local_plus_one: usize) -> Probe
+    ensures { λ r. ⌜ r ≡ entry-named «local_plus_one» ⌝ }
+{
+    if local_plus_one == 0 {
+        return Probe::Nothing;
+    }
+    Probe::At(local_plus_one - 1)
+}
+
 // The probe of the near cells from the page's home on, one by one. An entry that is not visible ends the probe.
 // (So with none visible any cell ends it, and the source's early return for that is not needed.)
-fn probe_near(
+// What is met is kept as the cell's number, 0 for nothing: one register, where a Probe takes two.
+pub fn probe_near(
     hash: &[u16],
     pages: &[u64],
     page_id: u64,
     from: usize,
     visible_entries: usize,
 ) -> Near
-    requires { ⌜ ((length (now hash) ≡ block-cells) × ((«visible_entries» ≤ block-entries) × («visible_entries» ≤ length (now pages)))) × ((from ≡ home «page_id») × (from + 24 ≤ block-cells)) ⌝ }
+    requires { ⌜ ((length (now hash) ≡ block-cells) × ((«visible_entries» ≤ block-entries) × («visible_entries» ≤ length (now pages)))) × ((from ≡ home «page_id») × NearFit from) ⌝ }
     ensures { λ r. ⌜ Answers (probe (now (hash .entry)) (now (pages .entry)) «page_id» «visible_entries») r ⌝ }
 {
-    let mut latest = Probe::Nothing;
+    let mut latest = 0;
     for cell in from..from + NEAR_CELLS {
         let local_plus_one = hash[cell] as usize;
         if local_plus_one == 0 {
-            return Near::Ended(latest);
+            return Near::Ended(entry_named(latest));
         }
-        let local_index = local_plus_one - 1;
-        if local_index >= visible_entries {
-            return Near::Ended(latest);
+        if visible_entries < local_plus_one {
+            return Near::Ended(entry_named(latest));
         }
-        if pages[local_index] == page_id {
-            latest = Probe::At(local_index);
+        if pages[local_plus_one - 1] == page_id {
+            latest = local_plus_one;
         }
     }
     Near::Further
@@ -119,8 +136,14 @@ fn latest_in_run(
     before
 }
 
-// The whole probe, many cells at a look: the run of live cells from the home on, which may go on at the block's first cell.
-fn probe_run(hash: &[u16], pages: &[u64], page_id: u64, visible_entries: usize) -> Probe
+// The place of the page's latest entry among the visible ones, many cells at a look: the run of live cells from the home
+// on, which may go on at the block's first cell.
+pub fn find_frame_in_block(
+    hash: &[u16],
+    pages: &[u64],
+    page_id: u64,
+    visible_entries: usize,
+) -> Probe
     requires { ⌜ (length (now hash) ≡ block-cells) × ((«visible_entries» ≤ block-entries) × («visible_entries» ≤ length (now pages))) ⌝ }
     ensures { λ r. ⌜ r ≡ probe (now (hash .entry)) (now (pages .entry)) «page_id» «visible_entries» ⌝ }
 {
@@ -133,25 +156,4 @@ fn probe_run(hash: &[u16], pages: &[u64], page_id: u64, visible_entries: usize) 
     }
     let wrapped = run::live_until(hash, 0, home, visible);
     latest_in_run(hash, pages, page_id, 0, wrapped, met)
-}
-
-// The place of the page's latest entry among the visible ones. Near cells that would go round the block's end are left to
-// the run.
-pub fn find_frame_in_block(
-    hash: &[u16],
-    pages: &[u64],
-    page_id: u64,
-    visible_entries: usize,
-) -> Probe
-    requires { ⌜ (length (now hash) ≡ block-cells) × ((«visible_entries» ≤ block-entries) × («visible_entries» ≤ length (now pages))) ⌝ }
-    ensures { λ r. ⌜ r ≡ probe (now (hash .entry)) (now (pages .entry)) «page_id» «visible_entries» ⌝ }
-{
-    let from = index_hash::hash_page_id(page_id);
-    if BLOCK_CELLS - NEAR_CELLS < from {
-        return probe_run(hash, pages, page_id, visible_entries);
-    }
-    if let Near::Ended(found) = probe_near(hash, pages, page_id, from, visible_entries) {
-        return found;
-    }
-    probe_run(hash, pages, page_id, visible_entries)
 }

@@ -1,5 +1,9 @@
-use Rattle.index_search.specs.InnerRun.{Answers}
-use mathlib.Core.Path.{subst}
+use Rattle.index_search.specs.InnerRun.{met-in}
+use Rattle.index_hash.specs.declared.Probe.the-variants.{Nothing}
+use Rattle.index_hash.specs.declared.Probe.{Probe}
+use Prim.Native.Nat.{ℕ, _-_}
+use Rattle.index_search.proofs.Passed.{probe-straight, probe-round}
+use mathlib.Core.Path.{_≡_, ap, _∙_}
 use native.Mathlib.Omega.{arith}
 use borrow.Author.Needs.{needs}
 use Rattle.index_search.proofs.probe.find_frame_in_block.Statement.{statement}
@@ -7,59 +11,60 @@ use Rattle.index_search.proofs.probe.find_frame_in_block.Tie as tie
 use Rattle.index_search.proofs.probe.find_frame_in_block.Reads as reads
 use Rattle.index_search.proofs.probe.find_frame_in_block.Lts as lts
 use Rattle.index_hash.proofs.hash_page_id.Reads as hash-page-id-reads
-use Rattle.index_search.proofs.probe.probe_near.Reads as probe-near-reads
-use Rattle.index_search.proofs.probe.probe_run.Reads as probe-run-reads
+use Rattle.index_search.proofs.probe.latest_in_run.Reads as latest-in-run-reads
+use Rattle.index_search.proofs.run.live_until.Reads as live-until-reads
 
--- src/probe.rt:149:9
+-- src/probe.rt:122:9
 hash-page-id-requires : tie.Need-hash-page-id-requires
 hash-page-id-requires c κs = search needs
 
--- src/probe.rt:150:8
-sub-if1 : tie.Need-sub-if1
-sub-if1 c = search needs
+-- src/probe.rt:123:19
+cast-visible : tie.Need-cast-visible
+cast-visible c = search needs
 
--- src/probe.rt:151:9
-probe-run-requires : tie.Need-probe-run-requires
-probe-run-requires c κs = search needs
+-- src/probe.rt:124:9
+live-until-requires : tie.Need-live-until-requires
+live-until-requires c κs = search needs
 
--- src/probe.rt:151:9
+-- src/probe.rt:125:9
+latest-in-run-requires : tie.Need-latest-in-run-requires
+latest-in-run-requires c κs = let r = c .live-until .ensures in ((omega arith, omega arith), λ k x y. let l = r .1 .0 k x y in (l .0, omega (arith, l .1)))
+
+-- src/probe.rt:127:9
 returns : tie.Need-returns
-returns c = c .probe-run .ensures
+returns c = let r = c .before .before .live-until .ensures in c .before .latest-in-run .ensures ∙ probe-straight _ _ _ _ _ _ (c .before .before .before .hash-page-id .ensures .0) (omega arith) (omega arith) (r .1 .0) (r .1 .1 (omega arith) .1)
 
--- src/probe.rt:153:33
-probe-near-requires : tie.Need-probe-near-requires
-probe-near-requires c κs = (search needs, (c .before .hash-page-id .ensures .0, omega arith))
+-- src/probe.rt:129:9
+live-until-requires-2 : tie.Need-live-until-requires-2
+live-until-requires-2 c κs = search needs
 
--- src/probe.rt:153:24
-enum-known-found : tie.Need-enum-known-found
-enum-known-found c = search needs
+-- src/probe.rt:130:5
+latest-in-run-requires-2 : tie.Need-latest-in-run-requires-2
+latest-in-run-requires-2 c κs = let r = c .live-until2 .ensures in ((omega arith, omega arith), λ k x y. let l = r .1 .0 k x y in (l .0, omega (arith, l .1)))
 
--- src/probe.rt:154:9
+-- src/probe.rt:118:1
 returns-2 : tie.Need-returns-2
-returns-2 c = subst (Answers _) (c .before .found .given .1) (c .before .before .before .probe-near .ensures)
-
-enum-told : tie.Need-enum-told
-enum-told c = search needs
-
--- src/probe.rt:156:5
-probe-run-requires-2 : tie.Need-probe-run-requires-2
-probe-run-requires-2 c κs = search needs
-
--- src/probe.rt:140:1
-returns-3 : tie.Need-returns-3
-returns-3 c = c .probe-run2 .ensures
+returns-2 c =
+    let a = c .before .before .before .before .before .before .before .before .args in
+    let h = a .hash .now in
+    let p = a .pages .now in
+    let page = a .page-id in
+    let home = c .before .before .before .before .before .hash-page-id .result in
+    let r = c .before .before .before .before .live-until .ensures in
+    let s = c .before .live-until2 .ensures in
+    let whole : c .before .before .before .before .live-until .result ≡ 8192 = omega arith in
+    let met = c .before .before .before .latest-in-run .ensures ∙ ap (λ (n : ℕ). met-in h p page home (n - home) Nothing) whole in
+    c .latest-in-run2 .ensures ∙ ap (λ (x : Probe). met-in h p page 0 (c .before .live-until2 .result - 0) x) met ∙ probe-round h p page (a .visible-entries) home _ (c .before .before .before .before .before .hash-page-id .ensures .0) (omega arith) (λ k x y. r .1 .0 k x (omega arith)) (omega arith) (s .1 .0) (λ b. s .1 .1 b .1)
 
 pub find-frame-in-block-spec : {M : Type 1} → statement M
 find-frame-in-block-spec =
     tie.close
     (tie.spec
     hash-page-id-requires
-    sub-if1
-    probe-run-requires
+    cast-visible
+    live-until-requires
+    latest-in-run-requires
     returns
-    probe-near-requires
-    enum-known-found
-    returns-2
-    enum-told
-    probe-run-requires-2
-    returns-3)
+    live-until-requires-2
+    latest-in-run-requires-2
+    returns-2)
