@@ -1,3 +1,4 @@
+-- The loop's invariant: the map is right of the table.
 use mathlib.Core.Path.{_≡_, sym, subst}
 use Rattle.index_rebuild.proofs.Dropped.{cell-dropped, found-way}
 use Rattle.index_rebuild.specs.InnerMap.{Tells}
@@ -7,12 +8,6 @@ use native.Mathlib.Omega.{arith}
 use borrow.Author.Needs.{needs}
 use Rattle.index_rebuild.proofs.map.empty_by_map.Statement.{statement}
 use Rattle.index_rebuild.proofs.map.empty_by_map.Tie as tie
-use Rattle.index_rebuild.proofs.map.empty_by_map.Reads as reads
-use Rattle.index_rebuild.proofs.map.empty_by_map.Lts as lts
-use Rattle.index_hash.proofs.hash_page_id.Reads as hash-page-id-reads
-use Rattle.index_rebuild.proofs.map.drop_cell.Reads as drop-cell-reads
-use Rattle.index_rebuild.proofs.map.next_cell.Reads as next-cell-reads
-use Rattle.index_search.proofs.empty.far_empty_cell.Reads as far-empty-cell-reads
 
 abbrev Inv-loop : tie.InvT-loop
 Inv-loop hash map₀ page-id home counter₀ map counter = ((counter ≤ 8192) × (home < 8192)) × ((length map ≡ 130) × Tells hash map)
@@ -20,71 +15,54 @@ Inv-loop hash map₀ page-id home counter₀ map counter = ((counter ≤ 8192) �
 abbrev μ-loop : tie.MeasureT-loop
 μ-loop hash map₀ page-id home counter₀ map counter = 8192 - counter
 
--- src/map.rt:100:9
 hash-page-id-requires : tie.Need-hash-page-id-requires Inv-loop μ-loop
 hash-page-id-requires c κs = search needs
 
--- src/map.rt:101:5
 loop-holds : tie.Need-loop-holds Inv-loop μ-loop
 loop-holds c = ((omega arith, omega arith), (omega arith, c .before .before .before .pre .1))
 
--- src/map.rt:102:13
 next-cell-requires : tie.Need-next-cell-requires Inv-loop μ-loop
 next-cell-requires c κs = (omega arith, (omega arith, c .before .before .loop .inv .1 .1 .words))
 
--- src/map.rt:104:13
 far-empty-cell-requires : tie.Need-far-empty-cell-requires Inv-loop μ-loop
 far-empty-cell-requires c κs = search needs
 
--- src/map.rt:104:13
 same-length : tie.Need-same-length Inv-loop μ-loop
 same-length c = search needs
 
--- src/map.rt:104:13
 returns : tie.Need-returns Inv-loop μ-loop
 returns c = (c .far-empty-cell .ensures, c .before .before .before .before .before .loop .inv .1 .1)
 
--- src/map.rt:106:12
 mul-if2 : tie.Need-mul-if2 Inv-loop μ-loop
 mul-if2 c = omega arith
 
--- src/map.rt:106:12
 shared-slice-read-if2 : tie.Need-shared-slice-read-if2 Inv-loop μ-loop
 shared-slice-read-if2 c = omega arith
 
--- src/map.rt:107:13
 same-length-2 : tie.Need-same-length-2 Inv-loop μ-loop
 same-length-2 c = search needs
 
--- src/map.rt:107:13
 returns-2 : tie.Need-returns-2 Inv-loop μ-loop
 returns-2 c = (found-way _ _ _ _ _ (c .before .before .before .before .before .before .before .hash-page-id .ensures .0) (c .before .before .before .before .before .before .loop .inv .1 .1) (omega arith) (c .before .before .before .next-cell .ensures (omega arith)) (c .if2 .taken), c .before .before .before .before .before .before .loop .inv .1 .1)
 
--- src/map.rt:109:9
 drop-cell-requires : tie.Need-drop-cell-requires Inv-loop μ-loop
 drop-cell-requires c κs = search needs
 
--- src/map.rt:101:9
 add-counter : tie.Need-add-counter Inv-loop μ-loop
 add-counter c = omega arith
 
--- src/map.rt:101:5
 loop-less : tie.Need-loop-less Inv-loop μ-loop
 loop-less c = omega arith
 
--- src/map.rt:101:5
 loop-again : tie.Need-loop-again Inv-loop μ-loop
 loop-again c = ((omega arith, omega arith), (omega arith, subst (Tells _) (sym (c .before .before .drop-cell .ensures)) (cell-dropped _ _ _ (omega arith) (omega arith) (c .before .before .before .before .if2 .left) (c .before .before .before .before .before .before .before .before .before .before .loop .inv .1 .1))))
 
--- src/map.rt:111:5
 far-empty-cell-requires-2 : tie.Need-far-empty-cell-requires-2 Inv-loop μ-loop
 far-empty-cell-requires-2 c κs = search needs
 
--- src/map.rt:96:1
 same-length-3 : tie.Need-same-length-3 Inv-loop μ-loop
 same-length-3 c = search needs
 
--- src/map.rt:96:1
 returns-3 : tie.Need-returns-3 Inv-loop μ-loop
 returns-3 c = (c .far-empty-cell2 .ensures, c .before .before .loop .inv .1 .1)
 

@@ -1,45 +1,33 @@
+-- The cells passed are the rest of the home's word, the words that are 0, and the lowest cells of the next word.
 use Rattle.index_rebuild.proofs.Ways.{way-on, cells-clear, way-next}
 use Rattle.index_rebuild.specs.InnerMap.{ClearCell}
-use Prim.Native.Nat.{_+_, _*_, _/_, _%_}
+use Prim.Native.Nat.{_/_, _%_}
 use native.Mathlib.Omega.{arith}
 use borrow.Author.Needs.{needs}
 use Rattle.index_rebuild.proofs.map.next_cell.Statement.{statement}
 use Rattle.index_rebuild.proofs.map.next_cell.Tie as tie
-use Rattle.index_rebuild.proofs.map.next_cell.Reads as reads
-use Rattle.index_rebuild.proofs.map.next_cell.Lts as lts
-use Rattle.index_rebuild.proofs.map.lowest_from.Reads as lowest-from-reads
-use Rattle.index_rebuild.proofs.map.next_word.Reads as next-word-reads
-use Rattle.word_bits.proofs.lowest_bit.Reads as lowest-bit-reads
 
--- src/map.rt:61:27
 mul-lowest-from : tie.Need-mul-lowest-from
 mul-lowest-from c = search needs
 
--- src/map.rt:61:27
 shared-slice-read-lowest-from : tie.Need-shared-slice-read-lowest-from
 shared-slice-read-lowest-from c = search needs
 
--- src/map.rt:61:38
 cast-lowest-from : tie.Need-cast-lowest-from
 cast-lowest-from c = search needs
 
--- src/map.rt:61:9
 lowest-from-requires : tie.Need-lowest-from-requires
 lowest-from-requires c κs = search needs
 
--- src/map.rt:63:16
 mul-result : tie.Need-mul-result
 mul-result c = search needs
 
--- src/map.rt:63:28
 cast-result : tie.Need-cast-result
 cast-result c = search needs
 
--- src/map.rt:63:16
 add-result : tie.Need-add-result
 add-result c = search needs
 
--- src/map.rt:63:9
 returns : tie.Need-returns
 returns c =
     let a = c .before .before .before .before .args in
@@ -48,51 +36,39 @@ returns c =
     let r = c .before .lowest-from .ensures in
     λ b. way-on (ClearCell m) 8192 home _ (omega arith) (λ k x y. cells-clear m (home / 64) (home % 64) _ (omega arith) (r .1) k (omega arith) y)
 
--- src/map.rt:65:26
 shared-slice-read-next-word : tie.Need-shared-slice-read-next-word
 shared-slice-read-next-word c = search needs
 
--- src/map.rt:65:42
 shared-slice-read-next-word-2 : tie.Need-shared-slice-read-next-word-2
 shared-slice-read-next-word-2 c = search needs
 
--- src/map.rt:65:60
 add-next-word : tie.Need-add-next-word
 add-next-word c = search needs
 
--- src/map.rt:65:9
 next-word-requires : tie.Need-next-word-requires
 next-word-requires c κs = search needs
 
--- src/map.rt:67:9
 returns-2 : tie.Need-returns-2
 returns-2 c = search needs
 
--- src/map.rt:69:5
 mul-result-2 : tie.Need-mul-result-2
 mul-result-2 c = search needs
 
--- src/map.rt:69:43
 mul-lowest-bit : tie.Need-mul-lowest-bit
 mul-lowest-bit c = search needs
 
--- src/map.rt:69:43
 shared-slice-read-lowest-bit : tie.Need-shared-slice-read-lowest-bit
 shared-slice-read-lowest-bit c = search needs
 
--- src/map.rt:69:17
 lowest-bit-requires : tie.Need-lowest-bit-requires
 lowest-bit-requires c κs = search needs
 
--- src/map.rt:69:17
 cast-result-2 : tie.Need-cast-result-2
 cast-result-2 c = search needs
 
--- src/map.rt:69:5
 add-result-2 : tie.Need-add-result-2
 add-result-2 c = search needs
 
--- src/map.rt:56:1
 returns-3 : tie.Need-returns-3
 returns-3 c =
     let a = c .before .before .before .before .before .before .before .before .before .before .args in

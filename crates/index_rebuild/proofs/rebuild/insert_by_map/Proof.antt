@@ -1,3 +1,4 @@
+-- The loop's invariant: the table is the one built from the entries passed, and the map is right of it.
 use Rattle.index_rebuild.proofs.Dropped.{nothing-known, entry-named}
 use Rattle.index_rebuild.specs.InnerMap.{Tells}
 use Rattle.index_hash.proofs.Used.{never-full}
@@ -13,11 +14,6 @@ use native.Mathlib.Omega.{arith}
 use borrow.Author.Needs.{needs}
 use Rattle.index_rebuild.proofs.rebuild.insert_by_map.Statement.{statement}
 use Rattle.index_rebuild.proofs.rebuild.insert_by_map.Tie as tie
-use Rattle.index_rebuild.proofs.rebuild.insert_by_map.Reads as reads
-use Rattle.index_rebuild.proofs.rebuild.insert_by_map.Lts as lts
-use Rattle.index_hash.proofs.name_entry.Reads as name-entry-reads
-use Rattle.index_rebuild.proofs.map.drop_cell.Reads as drop-cell-reads
-use Rattle.index_rebuild.proofs.map.empty_by_map.Reads as empty-by-map-reads
 
 abbrev Inv-loop : tie.InvT-loop
 Inv-loop hash₀ pages first visible-entries cells₀ local-index₀ hash cells local-index = (local-index ≤ visible-entries) × (((length hash ≡ 8192) × (length cells ≡ 130)) × ((hash ≡ built pages local-index) × Tells hash cells))
@@ -29,63 +25,48 @@ abbrev μ-loop : tie.MeasureT-loop
 has-room : (pages h : List ℕ) (n page : ℕ) → h ≡ built pages n → n < 8192 → empty-cell h page ≡ Full → ⊥
 has-room pages h n page e l f = never-full pages n page l (rw e at f)
 
--- src/rebuild.rt:51:5
 loop-holds : tie.Need-loop-holds Inv-loop μ-loop
 loop-holds c = (omega arith, ((omega arith, search needs), (c .before .before .pre .1 .1, nothing-known _)))
 
--- src/rebuild.rt:52:57
 slice-aggregate-empty-by-map : tie.Need-slice-aggregate-empty-by-map Inv-loop μ-loop
 slice-aggregate-empty-by-map c = search needs
 
--- src/rebuild.rt:52:69
 mul-empty-by-map : tie.Need-mul-empty-by-map Inv-loop μ-loop
 mul-empty-by-map c = search needs
 
--- src/rebuild.rt:52:69
 shared-slice-read-empty-by-map : tie.Need-shared-slice-read-empty-by-map Inv-loop μ-loop
 shared-slice-read-empty-by-map c = search needs
 
--- src/rebuild.rt:52:33
 empty-by-map-requires : tie.Need-empty-by-map-requires Inv-loop μ-loop
 empty-by-map-requires c κs = search needs
 
--- src/rebuild.rt:52:25
 enum-known-cell : tie.Need-enum-known-cell Inv-loop μ-loop
 enum-known-cell c = search needs
 
--- src/rebuild.rt:53:13
 enum-told : tie.Need-enum-told Inv-loop μ-loop
 enum-told c = search needs
 
--- src/rebuild.rt:53:13
 same-length : tie.Need-same-length Inv-loop μ-loop
 same-length c = search needs
 
--- src/rebuild.rt:53:13
 returns : tie.Need-returns Inv-loop μ-loop
 returns c = absurd (has-room _ _ _ _ (c .before .before .before .before .before .before .before .before .loop .inv .1 .1 .0) (omega arith) (sym (c .before .before .before .empty-by-map .ensures .0) ∙ c .enum-told .given .1))
 
--- src/rebuild.rt:55:9
 name-entry-requires : tie.Need-name-entry-requires Inv-loop μ-loop
 name-entry-requires c κs = let b = found-below _ _ _ (sym (c .before .before .before .before .before .empty-by-map .ensures .0) ∙ c .before .before .cell .given .1) in search needs
 
--- src/rebuild.rt:56:24
 slice-aggregate-drop-cell : tie.Need-slice-aggregate-drop-cell Inv-loop μ-loop
 slice-aggregate-drop-cell c = search needs
 
--- src/rebuild.rt:56:9
 drop-cell-requires : tie.Need-drop-cell-requires Inv-loop μ-loop
 drop-cell-requires c κs = let b = found-below _ _ _ (sym (c .before .before .before .before .before .before .before .before .before .empty-by-map .ensures .0) ∙ c .before .before .before .before .before .before .cell .given .1) in (search needs, omega arith)
 
--- src/rebuild.rt:51:9
 add-local-index : tie.Need-add-local-index Inv-loop μ-loop
 add-local-index c = search needs
 
--- src/rebuild.rt:51:5
 loop-less : tie.Need-loop-less Inv-loop μ-loop
 loop-less c = search needs
 
--- src/rebuild.rt:51:5
 loop-again : tie.Need-loop-again Inv-loop μ-loop
 loop-again c =
     let l = c .before .before .before .before .before .before .before .before .before .before .before .before .before .before .before .before .loop in
@@ -94,11 +75,9 @@ loop-again c =
     let b = found-below _ _ _ found in
     (omega arith, ((omega arith, search needs), (named ∙ sym (inserted-at _ _ _ _ found) ∙ built-more _ _ _ (l .inv .1 .1 .0), subst (Tells _) (sym (c .before .drop-cell .ensures)) (entry-named _ _ _ _ _ named (omega arith) (search needs) b (c .before .before .before .before .before .before .before .before .before .before .before .empty-by-map .ensures .1)))))
 
--- src/rebuild.rt:46:1
 same-length-2 : tie.Need-same-length-2 Inv-loop μ-loop
 same-length-2 c = search needs
 
--- src/rebuild.rt:46:1
 returns-2 : tie.Need-returns-2 Inv-loop μ-loop
 returns-2 c = c .before .loop .inv .1 .1 .0 ∙ ap (built _) (omega arith)
 

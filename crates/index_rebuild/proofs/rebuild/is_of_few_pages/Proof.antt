@@ -1,12 +1,10 @@
+-- The loop's invariant: no more entries are displaced than are looked at.
 use Prim.Native.Nat.{_-_, _≤_}
 use mathlib.Core.Logic.{⊎-elim}
 use native.Mathlib.Omega.{arith}
 use borrow.Author.Needs.{needs}
 use Rattle.index_rebuild.proofs.rebuild.is_of_few_pages.Statement.{statement}
 use Rattle.index_rebuild.proofs.rebuild.is_of_few_pages.Tie as tie
-use Rattle.index_rebuild.proofs.rebuild.is_of_few_pages.Reads as reads
-use Rattle.index_rebuild.proofs.rebuild.is_of_few_pages.Lts as lts
-use Rattle.index_hash.proofs.hash_page_id.Reads as hash-page-id-reads
 
 abbrev Inv-loop : tie.InvT-loop
 Inv-loop hash pages first-entries visible-entries displaced₀ local-index₀ displaced local-index = (displaced ≤ local-index) × (local-index ≤ first-entries)
@@ -14,59 +12,45 @@ Inv-loop hash pages first-entries visible-entries displaced₀ local-index₀ di
 abbrev μ-loop : tie.MeasureT-loop
 μ-loop hash pages first-entries visible-entries displaced₀ local-index₀ displaced local-index = first-entries - local-index
 
--- src/rebuild.rt:74:5
 loop-holds : tie.Need-loop-holds Inv-loop μ-loop
 loop-holds c = (omega arith, omega arith)
 
--- src/rebuild.rt:75:45
 mul-hash-page-id : tie.Need-mul-hash-page-id Inv-loop μ-loop
 mul-hash-page-id c = omega arith
 
--- src/rebuild.rt:75:45
 shared-slice-read-hash-page-id : tie.Need-shared-slice-read-hash-page-id Inv-loop μ-loop
 shared-slice-read-hash-page-id c = omega arith
 
--- src/rebuild.rt:75:13
 hash-page-id-requires : tie.Need-hash-page-id-requires Inv-loop μ-loop
 hash-page-id-requires c κs = search needs
 
--- src/rebuild.rt:76:12
 mul-if1 : tie.Need-mul-if1 Inv-loop μ-loop
 mul-if1 c = omega arith
 
--- src/rebuild.rt:76:12
 shared-slice-read-if1 : tie.Need-shared-slice-read-if1 Inv-loop μ-loop
 shared-slice-read-if1 c = omega arith
 
--- src/rebuild.rt:76:12
 cast-if1 : tie.Need-cast-if1 Inv-loop μ-loop
 cast-if1 c = omega (arith, c .shared-slice-known4 .given (c .before .hash-page-id .result))
 
--- src/rebuild.rt:76:35
 add-if1 : tie.Need-add-if1 Inv-loop μ-loop
 add-if1 c = omega arith
 
--- src/rebuild.rt:77:13
 add-displaced : tie.Need-add-displaced Inv-loop μ-loop
 add-displaced c = omega arith
 
--- src/rebuild.rt:74:9
 add-local-index : tie.Need-add-local-index Inv-loop μ-loop
 add-local-index c = omega arith
 
--- src/rebuild.rt:74:5
 loop-less : tie.Need-loop-less Inv-loop μ-loop
 loop-less c = omega arith
 
--- src/rebuild.rt:74:5
 loop-again : tie.Need-loop-again Inv-loop μ-loop
 loop-again c = (⊎-elim (λ w. rw (w .1) (omega arith)) (λ w. rw (w .1) (omega arith)) (c .if1 .came), omega arith)
 
--- src/rebuild.rt:80:5
 div-result : tie.Need-div-result Inv-loop μ-loop
 div-result c = omega arith
 
--- src/rebuild.rt:70:1
 returns : tie.Need-returns Inv-loop μ-loop
 returns c = tt
 

@@ -1,28 +1,19 @@
+-- A near cell that is empty is the first one; else the whole search.
 use Rattle.index_search.proofs.Passed.{found-on, of-page, live-used, dead-empty}
 use native.Mathlib.Omega.{arith}
 use borrow.Author.Needs.{needs}
 use Rattle.index_search.proofs.empty.empty_cell.Statement.{statement}
 use Rattle.index_search.proofs.empty.empty_cell.Tie as tie
-use Rattle.index_search.proofs.empty.empty_cell.Reads as reads
-use Rattle.index_search.proofs.empty.empty_cell.Lts as lts
-use Rattle.index_hash.proofs.hash_page_id.Reads as hash-page-id-reads
-use Rattle.index_search.proofs.empty.far_empty_cell.Reads as far-empty-cell-reads
-use Rattle.index_search.proofs.run.near_end.Reads as near-end-reads
-use Rattle.index_search.proofs.run.near_live_until.Reads as near-live-until-reads
 
--- src/empty.rt:35:9
 hash-page-id-requires : tie.Need-hash-page-id-requires
 hash-page-id-requires c κs = search needs
 
--- src/empty.rt:36:9
 near-end-requires : tie.Need-near-end-requires
 near-end-requires c κs = search needs
 
--- src/empty.rt:37:9
 near-live-until-requires : tie.Need-near-live-until-requires
 near-live-until-requires c κs = search needs
 
--- src/empty.rt:39:9
 returns : tie.Need-returns
 returns c =
     let h = c .before .before .before .before .before .args .hash .now in
@@ -31,11 +22,9 @@ returns c =
     let d = r .1 .1 (c .if1 .taken) in
     of-page h home _ _ (c .before .before .before .hash-page-id .ensures .0) (found-on h home (omega arith) _ (omega arith) (omega arith) (live-used h 65535 home _ (r .1 .0)) (dead-empty h _ (d .0) (d .1)))
 
--- src/empty.rt:41:5
 far-empty-cell-requires : tie.Need-far-empty-cell-requires
 far-empty-cell-requires c κs = search needs
 
--- src/empty.rt:31:1
 returns-2 : tie.Need-returns-2
 returns-2 c = c .far-empty-cell .ensures
 

@@ -8,41 +8,28 @@ use native.Mathlib.Omega.{arith}
 use borrow.Author.Needs.{needs}
 use Rattle.index_search.proofs.probe.find_frame_in_block.Statement.{statement}
 use Rattle.index_search.proofs.probe.find_frame_in_block.Tie as tie
-use Rattle.index_search.proofs.probe.find_frame_in_block.Reads as reads
-use Rattle.index_search.proofs.probe.find_frame_in_block.Lts as lts
-use Rattle.index_hash.proofs.hash_page_id.Reads as hash-page-id-reads
-use Rattle.index_search.proofs.probe.latest_in_run.Reads as latest-in-run-reads
-use Rattle.index_search.proofs.run.live_until.Reads as live-until-reads
 
--- src/probe.rt:122:9
 hash-page-id-requires : tie.Need-hash-page-id-requires
 hash-page-id-requires c κs = search needs
 
--- src/probe.rt:123:19
 cast-visible : tie.Need-cast-visible
 cast-visible c = search needs
 
--- src/probe.rt:124:9
 live-until-requires : tie.Need-live-until-requires
 live-until-requires c κs = search needs
 
--- src/probe.rt:125:9
 latest-in-run-requires : tie.Need-latest-in-run-requires
 latest-in-run-requires c κs = let r = c .live-until .ensures in ((omega arith, omega arith), λ k x y. let l = r .1 .0 k x y in (l .0, omega (arith, l .1)))
 
--- src/probe.rt:127:9
 returns : tie.Need-returns
 returns c = let r = c .before .before .live-until .ensures in c .before .latest-in-run .ensures ∙ probe-straight _ _ _ _ _ _ (c .before .before .before .hash-page-id .ensures .0) (omega arith) (omega arith) (r .1 .0) (r .1 .1 (omega arith) .1)
 
--- src/probe.rt:129:9
 live-until-requires-2 : tie.Need-live-until-requires-2
 live-until-requires-2 c κs = search needs
 
--- src/probe.rt:130:5
 latest-in-run-requires-2 : tie.Need-latest-in-run-requires-2
 latest-in-run-requires-2 c κs = let r = c .live-until2 .ensures in ((omega arith, omega arith), λ k x y. let l = r .1 .0 k x y in (l .0, omega (arith, l .1)))
 
--- src/probe.rt:118:1
 returns-2 : tie.Need-returns-2
 returns-2 c =
     let a = c .before .before .before .before .before .before .before .before .args in

@@ -1,14 +1,11 @@
+-- The loop's invariant: the cells passed name other pages' entries.
 use borrow.Author.Tests.{not-false}
 use Rattle.index_search.proofs.Runs.{all-none, all-join}
 use Rattle.index_search.specs.InnerRun.{All, Other}
 use Prim.Native.Nat.{_-_, _≤_}
 use native.Mathlib.Omega.{arith}
-use borrow.Author.Needs.{needs}
 use Rattle.index_search.proofs.probe.pass_others.Statement.{statement}
 use Rattle.index_search.proofs.probe.pass_others.Tie as tie
-use Rattle.index_search.proofs.probe.pass_others.Reads as reads
-use Rattle.index_search.proofs.probe.pass_others.Lts as lts
-use Rattle.index_search.proofs.probe.eight_name_others.Reads as eight-name-others-reads
 
 abbrev Inv-loop : tie.InvT-loop
 Inv-loop hash pages page-id from end rest₀ rest = ((from ≤ rest) × (rest ≤ end)) × All (Other hash pages page-id) rest end
@@ -16,39 +13,30 @@ Inv-loop hash pages page-id from end rest₀ rest = ((from ≤ rest) × (rest �
 abbrev μ-loop : tie.MeasureT-loop
 μ-loop hash pages page-id from end rest₀ rest = rest - from
 
--- src/probe.rt:85:5
 loop-holds : tie.Need-loop-holds Inv-loop μ-loop
 loop-holds c = ((omega arith, omega arith), all-none _ _)
 
--- src/probe.rt:85:19
 sub-loop : tie.Need-sub-loop Inv-loop μ-loop
 sub-loop c = omega arith
 
--- src/probe.rt:86:53
 sub-eight-name-others : tie.Need-sub-eight-name-others Inv-loop μ-loop
 sub-eight-name-others c = omega arith
 
--- src/probe.rt:86:13
 eight-name-others-requires : tie.Need-eight-name-others-requires Inv-loop μ-loop
 eight-name-others-requires c κs = (omega arith, λ k x y. c .before .before .before .before .pre .1 k (omega arith) (omega arith))
 
--- src/probe.rt:87:13
 returns : tie.Need-returns Inv-loop μ-loop
 returns c = (c .before .before .before .loop .inv)
 
--- src/probe.rt:89:9
 sub-rest : tie.Need-sub-rest Inv-loop μ-loop
 sub-rest c = omega arith
 
--- src/probe.rt:85:5
 loop-less : tie.Need-loop-less Inv-loop μ-loop
 loop-less c = omega arith
 
--- src/probe.rt:85:5
 loop-again : tie.Need-loop-again Inv-loop μ-loop
 loop-again c = ((omega arith, omega arith), all-join _ _ (c .before .before .before .loop .rest) _ (λ k x y. c .before .eight-name-others .ensures (not-false _ (c .if1 .left)) k (omega arith) (omega arith)) (c .before .before .before .loop .inv .1))
 
--- src/probe.rt:80:1
 returns-2 : tie.Need-returns-2 Inv-loop μ-loop
 returns-2 c = c .before .loop .inv
 

@@ -1,3 +1,4 @@
+-- The loop's invariant: from this cell on, with what was met last, the probe answers what the whole probe answers.
 use Rattle.index_search.proofs.Passed.{probe-start, probe-here, named-used}
 use Rattle.index_search.specs.InnerRun.{entry-named}
 use Rattle.index_hash.proofs.Turns.{probe-at-empty, probe-at-hidden, probe-at-other, probe-at-page}
@@ -5,7 +6,7 @@ use Rattle.index_hash.specs.Block.{probe-from, probe}
 use Rattle.index_hash.specs.Home.{next-cell}
 use mathlib.Core.Logic.{⊎-elim}
 use mathlib.Core.Path.{_≡_, _∙_}
-use Prim.Native.Nat.{_≤_, _<_, _-_, _+_, _%_}
+use Prim.Native.Nat.{_≤_, _-_, _%_}
 use native.Mathlib.Omega.{arith}
 use borrow.Author.Needs.{needs}
 use Rattle.index_search.proofs.probe.probe_near.Statement.{statement}

@@ -1,3 +1,4 @@
+-- The loop's invariant: the cells passed are live.
 use Rattle.index_search.proofs.Runs.{all-none, all-one, all-join, live-seen, live-unseen}
 use Rattle.index_search.specs.InnerRun.{All, Live}
 use borrow.Author.Tests.{not-true, not-false}
@@ -7,9 +8,6 @@ use native.Mathlib.Omega.{arith}
 use borrow.Author.Needs.{needs}
 use Rattle.index_search.proofs.run.near_live_until.Statement.{statement}
 use Rattle.index_search.proofs.run.near_live_until.Tie as tie
-use Rattle.index_search.proofs.run.near_live_until.Reads as reads
-use Rattle.index_search.proofs.run.near_live_until.Lts as lts
-use Rattle.index_search.proofs.run.is_live.Reads as is-live-reads
 
 abbrev Inv-loop : tie.InvT-loop
 Inv-loop hash from end visible cell₀ cell = ((from ≤ cell) × (cell ≤ end)) × All (Live hash visible) from cell
@@ -17,39 +15,30 @@ Inv-loop hash from end visible cell₀ cell = ((from ≤ cell) × (cell ≤ end)
 abbrev μ-loop : tie.MeasureT-loop
 μ-loop hash from end visible cell₀ cell = end - cell
 
--- src/run.rt:68:5
 loop-holds : tie.Need-loop-holds Inv-loop μ-loop
 loop-holds c = ((omega arith, omega arith), all-none _ _)
 
--- src/run.rt:69:21
 mul-is-live : tie.Need-mul-is-live Inv-loop μ-loop
 mul-is-live c = omega arith
 
--- src/run.rt:69:21
 shared-slice-read-is-live : tie.Need-shared-slice-read-is-live Inv-loop μ-loop
 shared-slice-read-is-live c = omega arith
 
--- src/run.rt:69:13
 is-live-requires : tie.Need-is-live-requires Inv-loop μ-loop
 is-live-requires c κs = search needs
 
--- src/run.rt:70:13
 returns : tie.Need-returns Inv-loop μ-loop
 returns c = let l = c .before .before .before .before .loop in let h = c .before .before .before .before .before .before .args .hash .now in ((omega arith, omega arith), (l .inv .1, λ b. (omega (arith, c .before .before .shared-slice-known2 .given (l .cell)), live-unseen h _ (l .cell) (sym (c .before .is-live .ensures) ∙ not-true _ (c .if1 .taken)))))
 
--- src/run.rt:72:9
 add-cell : tie.Need-add-cell Inv-loop μ-loop
 add-cell c = omega arith
 
--- src/run.rt:68:5
 loop-less : tie.Need-loop-less Inv-loop μ-loop
 loop-less c = omega arith
 
--- src/run.rt:68:5
 loop-again : tie.Need-loop-again Inv-loop μ-loop
 loop-again c = let h = c .before .before .before .before .before .before .args .hash .now in ((omega arith, omega arith), all-join _ _ (c .before .before .before .before .loop .cell) _ (c .before .before .before .before .loop .inv .1) (all-one _ _ (live-seen h _ (c .before .before .before .before .loop .cell) (sym (c .before .is-live .ensures) ∙ not-false _ (c .if1 .left)))))
 
--- src/run.rt:63:1
 returns-2 : tie.Need-returns-2 Inv-loop μ-loop
 returns-2 c = ((omega arith, omega arith), (c .before .loop .inv .1, λ b. absurd (omega arith)))
 

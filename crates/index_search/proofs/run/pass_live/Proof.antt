@@ -1,3 +1,4 @@
+-- The loop's invariant: the cells passed are live.
 use borrow.Author.Tests.{not-false}
 use Rattle.index_search.proofs.Runs.{all-none, all-join}
 use Rattle.index_search.specs.InnerRun.{All, Live}
@@ -6,9 +7,6 @@ use native.Mathlib.Omega.{arith}
 use borrow.Author.Needs.{needs}
 use Rattle.index_search.proofs.run.pass_live.Statement.{statement}
 use Rattle.index_search.proofs.run.pass_live.Tie as tie
-use Rattle.index_search.proofs.run.pass_live.Reads as reads
-use Rattle.index_search.proofs.run.pass_live.Lts as lts
-use Rattle.index_search.proofs.run.sixteen_live.Reads as sixteen-live-reads
 
 abbrev Inv-loop : tie.InvT-loop
 Inv-loop hash from end visible cell₀ cell = ((from ≤ cell) × (cell ≤ end)) × All (Live hash visible) from cell
@@ -16,35 +14,27 @@ Inv-loop hash from end visible cell₀ cell = ((from ≤ cell) × (cell ≤ end)
 abbrev μ-loop : tie.MeasureT-loop
 μ-loop hash from end visible cell₀ cell = end - cell
 
--- src/run.rt:51:5
 loop-holds : tie.Need-loop-holds Inv-loop μ-loop
 loop-holds c = ((omega arith, omega arith), all-none _ _)
 
--- src/run.rt:51:19
 sub-loop : tie.Need-sub-loop Inv-loop μ-loop
 sub-loop c = omega arith
 
--- src/run.rt:52:13
 sixteen-live-requires : tie.Need-sixteen-live-requires Inv-loop μ-loop
 sixteen-live-requires c κs = search needs
 
--- src/run.rt:53:13
 returns : tie.Need-returns Inv-loop μ-loop
 returns c = c .before .before .before .loop .inv
 
--- src/run.rt:55:9
 add-cell : tie.Need-add-cell Inv-loop μ-loop
 add-cell c = omega arith
 
--- src/run.rt:51:5
 loop-less : tie.Need-loop-less Inv-loop μ-loop
 loop-less c = omega arith
 
--- src/run.rt:51:5
 loop-again : tie.Need-loop-again Inv-loop μ-loop
 loop-again c = ((omega arith, omega arith), all-join _ _ (c .before .before .before .loop .cell) _ (c .before .before .before .loop .inv .1) (c .before .sixteen-live .ensures (not-false _ (c .if1 .left))))
 
--- src/run.rt:46:1
 returns-2 : tie.Need-returns-2 Inv-loop μ-loop
 returns-2 c = c .before .loop .inv
 
