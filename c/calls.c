@@ -219,14 +219,16 @@ static void same_index_reply(int line, struct wal_index_reply r, uint32_t refusa
 
 #define SAME_INDEX(reply, refusal, answer) same_index_reply(__LINE__, reply, refusal, answer)
 
-static void same_find_reply(int line, struct wal_find_reply r, uint32_t refusal, uint32_t found, uint64_t frame) {
+static void same_find_reply(int line, struct wal_find_reply r, uint32_t refusal, uint32_t found, uint64_t frame,
+                            uint32_t cells) {
     same(line, "refusal", r.refusal, refusal);
     same(line, "found", r.found, found);
     same(line, "frame", r.frame, frame);
+    same(line, "cells", r.cells, cells);
     same_world(line);
 }
 
-#define SAME_FIND(reply, refusal, found, frame) same_find_reply(__LINE__, reply, refusal, found, frame)
+#define SAME_FIND(reply, refusal, found, frame, cells) same_find_reply(__LINE__, reply, refusal, found, frame, cells)
 
 static void same_list_reply(int line, struct wal_list_reply r, uint32_t refusal, uint64_t count) {
     same(line, "refusal", r.refusal, refusal);
@@ -310,9 +312,10 @@ static void records(void) {
     SAME_INDEX(rollback(TWO_BLOCKS, B(5000)), 0, WAL_BLOCK_ENTRIES + 1);
 
     /* Bounds that need their 64 bits. */
-    SAME_FIND(find(TWO_BLOCKS, B(6), B(5000), B(5000), 0, 0), 0, 1, B(5000));
-    SAME_FIND(find(TWO_BLOCKS, 7, B(1), B(5000), 0, 0), 0, 0, 0);
-    SAME_FIND(find(TWO_BLOCKS, B(6), 1, 3, 256, B(5000)), 0, 1, B(5000));
+    SAME_FIND(find(TWO_BLOCKS, B(6), B(5000), B(5000), 0, 0), 0, 1, B(5000), 2);
+    /* Two cells of block 1, and of block 0 the three records, the seventh entry and an empty cell. */
+    SAME_FIND(find(TWO_BLOCKS, 7, B(1), B(5000), 0, 0), 0, 0, 0, 2 + 5);
+    SAME_FIND(find(TWO_BLOCKS, B(6), 1, 3, 256, B(5000)), 0, 1, B(5000), 2);
     wanted.out_pages[0] = B(6);
     wanted.out_frames[0] = B(5000);
     SAME_LIST(list(TWO_BLOCKS, B(4999), B(5000), 1, 1), 0, 1);
@@ -322,12 +325,12 @@ static void records(void) {
 
 static void lookups(void) {
     three_records();
-    SAME_FIND(find(TWO_BLOCKS, 7, 1, 3, 0, 2), 0, 1, 3);
-    SAME_FIND(find(TWO_BLOCKS, 7, 1, 2, 0, 3), 0, 1, 1);
-    SAME_FIND(find(TWO_BLOCKS, 8199, 1, 3, 0, 0), 0, 1, 2);
-    SAME_FIND(find(TWO_BLOCKS, 7, 2, 2, 0, 0), 0, 0, 0);
-    SAME_FIND(find(TWO_BLOCKS, 7, 2, 3, 1, 2), 0, 1, 1);
-    SAME_FIND(find(TWO_BLOCKS, 7, 2, 3, 1, 1), 0, 0, 0);
+    SAME_FIND(find(TWO_BLOCKS, 7, 1, 3, 0, 2), 0, 1, 3, 4);
+    SAME_FIND(find(TWO_BLOCKS, 7, 1, 2, 0, 3), 0, 1, 1, 3);
+    SAME_FIND(find(TWO_BLOCKS, 8199, 1, 3, 0, 0), 0, 1, 2, 4);
+    SAME_FIND(find(TWO_BLOCKS, 7, 2, 2, 0, 0), 0, 0, 0, 3);
+    SAME_FIND(find(TWO_BLOCKS, 7, 2, 3, 1, 2), 0, 1, 1, 3);
+    SAME_FIND(find(TWO_BLOCKS, 7, 2, 3, 1, 1), 0, 0, 0, 0);
 
     for (size_t i = 0; i < 8; i++) {
         w.out_pages[i] = wanted.out_pages[i] = 500 + i;
@@ -346,10 +349,85 @@ static void lookups(void) {
     SAME_LIST(list(TWO_BLOCKS, 1, 3, 8, 7), 0, 2);
 }
 
+/* An index with one block in use and nothing in it. */
+static void empty_index(void) {
+    memset(&w, 0, sizeof w);
+    w.header.frame_index_blocks = 1;
+    wanted = w;
+}
+
+/* A record that need not be looked at: what a record leaves is another test's. */
+static void recorded(int line, uint64_t page, uint64_t frame) {
+    struct wal_index_reply r = record(TWO_BLOCKS, page, frame, 1);
+    same(line, "record: refusal", r.refusal, 0);
+    same(line, "record: answer", r.answer, 1);
+}
+
+#define RECORDED(page, frame)              \
+    do {                                   \
+        recorded(__LINE__, page, frame);   \
+        wanted = w;                        \
+    } while (0)
+
+/* How many hash cells a lookup looks at. */
+static void cells_looked_at(void) {
+    empty_index();
+    SAME_FIND(find(TWO_BLOCKS, 7, 1, 9, 0, 0), 0, 0, 0, 0); /* no block is visible */
+    RECORDED(7, 1);
+    SAME_FIND(find(TWO_BLOCKS, 8, 1, 9, 0, 0), 0, 0, 0, 1); /* the empty home */
+    SAME_FIND(find(TWO_BLOCKS, 7, 1, 9, 0, 0), 0, 1, 1, 2); /* its cell and the empty one */
+    SAME_FIND(find(TWO_BLOCKS, 7, 1, 0, 0, 0), 0, 0, 0, 0); /* the upper bound is below the lower one */
+    SAME_FIND(find(TWO_BLOCKS, 7, 0, 0, 0, 0), 0, 0, 0, 0); /* no entry is visible */
+
+    /* A cell that names a hidden entry counts and ends the probe: at the home, and behind a match. */
+    RECORDED(9, 2);
+    RECORDED(9, 3);
+    SAME_FIND(find(TWO_BLOCKS, 9, 1, 9, 1, 1), 0, 0, 0, 1);
+    SAME_FIND(find(TWO_BLOCKS, 9, 1, 9, 1, 2), 0, 1, 2, 2);
+    SAME_FIND(find(TWO_BLOCKS, 9, 1, 9, 0, 0), 0, 1, 3, 3);
+
+    /* Page 770 has the home 8,190: its third cell is the block's first. */
+    for (uint64_t frame = 4; frame <= 7; frame++)
+        RECORDED(770, frame);
+    SAME_FIND(find(TWO_BLOCKS, 770, 1, 9, 0, 0), 0, 1, 7, 5);
+    SAME_FIND(find(TWO_BLOCKS, 770, 1, 5, 0, 0), 0, 1, 5, 3);
+
+    struct index_given short_hash = TWO_BLOCKS;
+    short_hash.hash -= 1;
+    SAME_FIND(find(short_hash, 9, 1, 9, 0, 0), WAL_REFUSED_SHORT_MEMORY, 0, 0, 0);
+
+    /* A block of one page: its 4,096 cells from 2,681 on, and an empty one. */
+    empty_index();
+    for (uint64_t frame = 1; frame <= WAL_BLOCK_ENTRIES; frame++)
+        recorded(__LINE__, 7, frame);
+    wanted = w;
+    SAME_FIND(find(TWO_BLOCKS, 7, 1, 9999, 0, 0), 0, 1, 4096, 4097);
+    SAME_FIND(find(TWO_BLOCKS, 8199, 1, 9999, 0, 0), 0, 0, 0, 4097);
+    SAME_FIND(find(TWO_BLOCKS, 7, 1, 4000, 0, 0), 0, 1, 4000, 4001);
+    SAME_FIND(find(TWO_BLOCKS, 8, 1, 9999, 0, 0), 0, 0, 0, 4097 - 383); /* its home is the 384th of them */
+
+    /* Block 1 is probed first. The block that answers is the last that counts, and a match below the lower bound
+     * answers nothing. */
+    RECORDED(8199, 4097);
+    SAME_FIND(find(TWO_BLOCKS, 8199, 1, 9999, 0, 0), 0, 1, 4097, 2);
+    SAME_FIND(find(TWO_BLOCKS, 7, 1, 9999, 0, 0), 0, 1, 4096, 2 + 4097);
+    SAME_FIND(find(TWO_BLOCKS, 8, 1, 9999, 0, 0), 0, 0, 0, 1 + 4097 - 383);
+    SAME_FIND(find(TWO_BLOCKS, 770, 1, 9999, 0, 0), 0, 0, 0, 1 + 1);
+    SAME_FIND(find(TWO_BLOCKS, 3, 1, 9999, 0, 0), 0, 0, 0, 1 + 1);
+    SAME_FIND(find(TWO_BLOCKS, 8199, 4098, 9999, 0, 0), 0, 0, 0, 2 + 4097);
+
+    /* Damage: no cell of block 0 is empty, and each names a visible entry of page 7. */
+    for (size_t cell = 0; cell < WAL_BLOCK_HASH_CELLS; cell++)
+        w.hash[cell] = wanted.hash[cell] = 1;
+    SAME_FIND(find(TWO_BLOCKS, 7, 1, 4096, 0, 0), 0, 1, 1, 8192);
+    SAME_FIND(find(TWO_BLOCKS, 8, 1, 9999, 0, 0), 0, 0, 0, 1 + 8192);
+}
+
 /* The four calls on the index with these settings and lengths: all are refused so, or none is. */
 static void index_refused(int line, struct index_given g, uint32_t refusal) {
     wanted = w;
-    same_find_reply(line, find(g, 7, 1, 3, 0, 0), refusal, refusal == 0, refusal == 0 ? 3 : 0);
+    same_find_reply(line, find(g, 7, 1, 3, 0, 0), refusal, refusal == 0, refusal == 0 ? 3 : 0,
+                    refusal == 0 ? 4 : 0);
     struct wal_list_reply listed = list(g, 1, 3, 8, 8);
     same(line, "refusal", listed.refusal, refusal);
     same(line, "count", listed.count, refusal == 0 ? 2 : 0);
@@ -811,6 +889,7 @@ int main(void) {
     lock(wal_try_acquire_checkpoint, wal_release_checkpoint, &wanted.header.checkpoint_owner);
     records();
     lookups();
+    cells_looked_at();
     index_settings();
     reader_refusals();
     registrations();

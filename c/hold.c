@@ -50,7 +50,8 @@ static void find(uint64_t page, uint64_t up_to) {
     if (r.refusal != 0)
         printf("find page %" PRIu64 " up to %" PRIu64 ": refused %" PRIu32 "\n", page, up_to, r.refusal);
     else if (r.found == 1)
-        printf("find page %" PRIu64 " up to %" PRIu64 ": frame %" PRIu64 "\n", page, up_to, r.frame);
+        printf("find page %" PRIu64 " up to %" PRIu64 ": frame %" PRIu64 ", %" PRIu32 " hash cells looked at\n", page, up_to,
+               r.frame, r.cells);
     else
         printf("find page %" PRIu64 " up to %" PRIu64 ": none\n", page, up_to);
 }

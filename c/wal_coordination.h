@@ -54,9 +54,10 @@
 extern "C" {
 #endif
 
-/* The version of this header and its library; the Rust crate has the same. As one number 1.2.3 is 1002003. */
+/* The version of this header and its library; the Rust crate has the same. As one number 1.2.3 is 1002003. Where a
+ * declaration changes, the minor number rises as long as the major one is 0: a host is then compiled anew. */
 #define WAL_COORDINATION_VERSION_MAJOR 0
-#define WAL_COORDINATION_VERSION_MINOR 1
+#define WAL_COORDINATION_VERSION_MINOR 2
 #define WAL_COORDINATION_VERSION_PATCH 0
 #define WAL_COORDINATION_VERSION                                                       \
     (WAL_COORDINATION_VERSION_MAJOR * 1000000 + WAL_COORDINATION_VERSION_MINOR * 1000 + \
@@ -224,15 +225,23 @@ struct wal_index_reply wal_rollback_frames(uint32_t capacity, uint32_t max_block
                                            const uint64_t *pages, size_t pages_len, const uint64_t *frames,
                                            size_t frames_len, uint16_t *hash, size_t hash_len, uint64_t max_frame);
 
-/* found: 1 if there is a frame, and then frame is it; else both are 0. */
+/* found: 1 if there is a frame, and then frame is it; else both are 0. cells: how many hash cells the lookup looked at,
+ * summed over the blocks that it probed; 0 where it probed none and where it was refused. The number is decided for
+ * every call, on any memory. */
 struct wal_find_reply {
     uint32_t refusal;
     uint32_t found;
     uint64_t frame;
+    uint32_t cells;
 };
 
 /* The latest frame of a page from min_frame to max_frame. With a watermark (has_watermark not 0) that is the upper
- * bound and the lower one is 0; a watermark below min_frame finds nothing. Nothing changes. Refusals 1, 2. */
+ * bound and the lower one is 0; a watermark below min_frame finds nothing. Nothing changes. Refusals 1, 2.
+ *
+ * It probes blocks from the last visible one down to the one that answers. A probe looks at the cells from the page's
+ * home on, up to the first that is empty or names an entry that is not visible, and that cell counts too. On an index
+ * that grew from fresh by records and rollbacks it looks at 4,097 cells of a block at most, on any other memory at
+ * 8,192. docs/LIFE-OF-A-FRAME.md says what the number tells ("When lookups are slow"). */
 struct wal_find_reply wal_find_frame(uint32_t capacity, uint32_t max_blocks, struct wal_header header,
                                      const uint64_t *pages, size_t pages_len, const uint64_t *frames,
                                      size_t frames_len, const uint16_t *hash, size_t hash_len, uint64_t page_id,
@@ -415,7 +424,8 @@ WAL_LAYOUT(sizeof(struct wal_index_reply), 8);
 WAL_LAYOUT(offsetof(struct wal_find_reply, refusal), 0);
 WAL_LAYOUT(offsetof(struct wal_find_reply, found), 4);
 WAL_LAYOUT(offsetof(struct wal_find_reply, frame), 8);
-WAL_LAYOUT(sizeof(struct wal_find_reply), 16);
+WAL_LAYOUT(offsetof(struct wal_find_reply, cells), 16);
+WAL_LAYOUT(sizeof(struct wal_find_reply), 24);
 WAL_LAYOUT(offsetof(struct wal_list_reply, refusal), 0);
 WAL_LAYOUT(offsetof(struct wal_list_reply, count), 8);
 WAL_LAYOUT(sizeof(struct wal_list_reply), 16);

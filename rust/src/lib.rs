@@ -44,6 +44,7 @@
 //! - **Database file readers hold copying back.** Before it copies, a host asks
 //!   [`Process::has_active_db_file_reader`]: see [`Process::copy_back_limit`].
 //! - **A full index stays full.** What a host does then is said at [`Process::record_frame`].
+//! - **Few pages written often make lookups slow.** [`Process::probe_lengths`] shows it.
 //!
 //! `docs/LIFE-OF-A-FRAME.md` of the repository has the whole course.
 //!
@@ -56,6 +57,7 @@
 
 mod locks;
 mod memory;
+mod probe_lengths;
 mod process;
 mod refusal;
 
@@ -66,7 +68,8 @@ pub use memory::{
     Header, Memory, OwnedMemory, Settings, SharedOwnerRecord, SharedReadMark, SharedReaderSlot, SharedWalOwnershipMode,
     Slot, BLOCK_ENTRIES, BLOCK_HASH_CELLS, UNUSED_READER_FRAME,
 };
+pub use probe_lengths::ProbeLengths;
 #[cfg(feature = "own-cells")]
 pub use process::OwnCells;
-pub use process::{Process, Recorded};
+pub use process::{Lookup, Process, Recorded};
 pub use refusal::Refusal;

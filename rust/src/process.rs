@@ -19,6 +19,16 @@ pub enum Recorded {
     Dropped,
 }
 
+/// What a lookup found, and how many hash cells it looked at. Later versions may have more.
+#[derive(Clone, Copy, Debug, PartialEq, Eq, Hash)]
+#[non_exhaustive]
+pub struct Lookup {
+    /// The frame, if there is one.
+    pub frame: Option<u64>,
+    /// The hash cells, summed over the blocks that were probed; 0 where none was.
+    pub cells: u32,
+}
+
 /// A process that shares the memory: its own cells, its registry of shared marks, and its locks. All calls of a
 /// process on a memory go through one of these; threads of a process share it behind a mutex.
 pub struct Process<L> {
@@ -176,10 +186,50 @@ impl<L: ByteLocks> Process<L> {
         max_frame: u64,
         frame_watermark: Option<u64>,
     ) -> Result<Option<u64>, Refusal> {
+        Ok(self.find_frame_counted(memory, page_id, min_frame, max_frame, frame_watermark)?.frame)
+    }
+
+    /// The same, and how many hash cells the lookup looked at.
+    ///
+    /// It probes blocks from the last visible one down to the one that answers. A probe looks at the cells from the
+    /// page's home on, up to the first that is empty or names an entry that is not visible, and that cell counts too.
+    /// On an index that grew from fresh by records and rollbacks it looks at 4,097 cells of a block at most.
+    /// [`probe_lengths`](Self::probe_lengths) looks at all pages of an index.
+    ///
+    /// ```
+    /// # use wal_coordination::{SharedWalOwnershipMode::*, *};
+    /// # let settings = Settings::new(64, 1, 1, LinuxOfd);
+    /// # let mut owned = OwnedMemory::fresh(&settings, 1)?;
+    /// # let mut memory = owned.lend();
+    /// # let process = Process::new(settings, OneProcess)?;
+    /// // Each record of a page adds a cell to those from the page's home on.
+    /// for frame in 1..=5 {
+    ///     process.record_frame(&mut memory, 7, frame, false)?;
+    /// }
+    /// let lookup = process.find_frame_counted(&memory, 7, 1, 5, None)?;
+    /// assert_eq!((lookup.frame, lookup.cells), (Some(5), 6)); // five, and the empty one that ends the probe
+    ///
+    /// // Another page: the first cell that is looked at is empty.
+    /// let lookup = process.find_frame_counted(&memory, 8, 1, 5, None)?;
+    /// assert_eq!((lookup.frame, lookup.cells), (None, 1));
+    /// # Ok::<(), Refusal>(())
+    /// ```
+    ///
+    /// # Errors
+    ///
+    /// As [`find_frame`](Self::find_frame).
+    pub fn find_frame_counted(
+        &self,
+        memory: &Memory<'_>,
+        page_id: u64,
+        min_frame: u64,
+        max_frame: u64,
+        frame_watermark: Option<u64>,
+    ) -> Result<Lookup, Refusal> {
         let index = memory.index_to_read(&self.settings);
         let reply = sys::find_frame(index, page_id, min_frame, max_frame, frame_watermark);
         accepted(reply.refusal)?;
-        Ok((reply.found == 1).then_some(reply.frame))
+        Ok(Lookup { frame: (reply.found == 1).then_some(reply.frame), cells: reply.cells })
     }
 
     /// Each page's latest frame up to `max_frame`, if it is at least `min_frame`: pairs of page and frame, by rising

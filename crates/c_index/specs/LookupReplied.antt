@@ -11,17 +11,19 @@ use Rattle.c_numbers.specs.Reply.{refusal-number, answer-number, found-number}
 use Rattle.c_index_replies.specs.declared.lookup_reply.FindReply.{FindReply}
 use Rattle.c_index_replies.specs.declared.lookup_reply.ListReply.{ListReply}
 
--- A lookup's reply, on any memory with this header and index in it, by any process; nothing changes.
-pub record FindTold (r : FindReply) (z : Memory) (h : Header) (ps fs hs : List ℕ) (p : Process) (d : Done) : Type 0 where
+-- A lookup's reply, on any memory with this header and index in it, by any process; nothing changes. The cells looked at are
+-- decided too, of a refused lookup as well.
+pub record FindTold (r : FindReply) (cells : ℕ) (z : Memory) (h : Header) (ps fs hs : List ℕ) (p : Process) (d : Done) : Type 0 where
   pub refusal-told : r .refusal ≡ refusal-number (d .answer)
   pub found-told : r .found ≡ found-number (d .answer)
   pub frame-told : r .frame ≡ answer-number (d .answer)
+  pub cells-told : r .cells ≡ cells
   pub memory-left : d .memory ≡ index-in z h ps fs hs
   pub process-left : d .process ≡ p
 
-abbrev pub FindReplied : Call → Header → List ℕ → List ℕ → List ℕ → FindReply → Type 0
-FindReplied call h ps fs hs r =
-    (z : Memory) (p : Process) → FindTold r z h ps fs hs p (after call (index-in z h ps fs hs) p)
+abbrev pub FindReplied : Call → (Memory → ℕ) → Header → List ℕ → List ℕ → List ℕ → FindReply → Type 0
+FindReplied call cells h ps fs hs r =
+    (z : Memory) (p : Process) → FindTold r (cells (index-in z h ps fs hs)) z h ps fs hs p (after call (index-in z h ps fs hs) p)
 
 -- Output cells after an answer: the pairs' pages, or frames, and then the cells as they were; nothing where there is no list.
 abbrev pub written : (Pair → ℕ) → Answer → List ℕ → List ℕ

@@ -12,7 +12,7 @@ ghost use lib.Dec.{eqb};
 ghost use lib.ListN.{length};
 ghost use Rattle.index_record.specs.Record.{record-frame};
 ghost use Rattle.index_record.specs.Rollback.{rollback-frames};
-ghost use Rattle.index_find.specs.Find.{find-frame};
+ghost use Rattle.index_find.specs.Find.{find-frame, find-looked};
 ghost use Rattle.list_latest.specs.Latest.{iter-latest-frames};
 ghost use Rattle.c_index_replies.specs.IndexReply.{IndexReplied};
 ghost use Rattle.c_index_replies.specs.LookupReply.{watermark-given};
@@ -80,7 +80,7 @@ pub extern "C" fn wal_rollback_frames(
     left.reply
 }
 
-// Looks up the latest frame of a page. has_watermark: 0 if there is none, else watermark is it.
+// Looks up the latest frame of a page, and counts the hash cells that it looks at. has_watermark: 0 if there is none, else watermark is it.
 #[no_mangle]
 pub extern "C" fn wal_find_frame(
     capacity: u32,
@@ -95,7 +95,7 @@ pub extern "C" fn wal_find_frame(
     has_watermark: u32,
     watermark: u64,
 ) -> FindReply
-    ensures { λ r. ⌜ FindReplied (find-frame capacity «max_blocks» «page_id» «min_frame» «max_frame» (watermark-given «has_watermark» watermark)) header (now (pages .entry)) (now (frames .entry)) (now (hash .entry)) r ⌝ }
+    ensures { λ r. ⌜ FindReplied (find-frame capacity «max_blocks» «page_id» «min_frame» «max_frame» (watermark-given «has_watermark» watermark)) (find-looked capacity «max_blocks» «page_id» «min_frame» «max_frame» (watermark-given «has_watermark» watermark)) header (now (pages .entry)) (now (frames .entry)) (now (hash .entry)) r ⌝ }
 {
     let frame_watermark = lookup_reply::watermark_of(has_watermark, watermark);
     let answer = find::find_frame(

@@ -1,3 +1,2 @@
 -- Laws of the replies.
 mod IndexReplies
-mod NoFrame

@@ -11,9 +11,9 @@ use Rattle.c_numbers.specs.Reply.{refusal-number, answer-number, found-number}
 use Rattle.c_index_replies.specs.declared.lookup_reply.FindReply.{FindReply}
 use Rattle.c_index_replies.specs.declared.lookup_reply.ListReply.{ListReply}
 
--- a lookup's answer in numbers
-abbrev pub find-reply : Answer → FindReply
-find-reply a = record { refusal = refusal-number a; found = found-number a; frame = answer-number a }
+-- a lookup's answer in numbers, with the cells that it looked at
+abbrev pub find-reply : Answer → ℕ → FindReply
+find-reply a cells = record { refusal = refusal-number a; found = found-number a; frame = answer-number a; cells = cells }
 
 -- The reply of each case of a list's answer.
 abbrev pub list-reply : ListAnswer → ListReply

@@ -3,15 +3,16 @@ use index_find::find::FindAnswer;
 use index_find::find::Watermark;
 use list_latest::ListAnswer;
 ghost use mathlib.Core.Path.{_≡_};
-ghost use Rattle.index_find.specs.Find.{found-answer};
+ghost use Rattle.index_find.specs.Find.{found-answer, cells-told};
 ghost use Rattle.c_index_replies.specs.LookupReply.{find-reply, list-reply, watermark-given};
 
-// The answer of a lookup in numbers. found: 1 if there is a frame.
+// The answer of a lookup in numbers. found: 1 if there is a frame. cells: how many hash cells were looked at.
 #[repr(C)]
 pub struct FindReply {
     pub refusal: u32,
     pub found: u32,
     pub frame: u64,
+    pub cells: u32,
 }
 
 // The answer of a list in numbers: how many pairs are in the first output cells.
@@ -22,26 +23,27 @@ pub struct ListReply {
 }
 
 pub fn looked_up(answer: FindAnswer) -> FindReply
-    ensures { λ r. ⌜ r ≡ find-reply (found-answer answer) ⌝ }
+    ensures { λ r. ⌜ r ≡ find-reply (found-answer answer) (cells-told answer) ⌝ }
 {
-    let FindAnswer::Frame(frame) = answer else {
-        let FindAnswer::Refused(number) = answer else {
-            return FindReply {
-                refusal: 0,
-                found: 0,
-                frame: 0,
-            };
-        };
-        return FindReply {
+    match answer {
+        FindAnswer::Frame(frame, cells) => FindReply {
+            refusal: 0,
+            found: 1,
+            frame: frame,
+            cells: cells,
+        },
+        FindAnswer::NoFrame(cells) => FindReply {
+            refusal: 0,
+            found: 0,
+            frame: 0,
+            cells: cells,
+        },
+        FindAnswer::Refused(number) => FindReply {
             refusal: number,
             found: 0,
             frame: 0,
-        };
-    };
-    FindReply {
-        refusal: 0,
-        found: 1,
-        frame: frame,
+            cells: 0,
+        },
     }
 }
 

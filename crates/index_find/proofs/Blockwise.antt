@@ -10,11 +10,16 @@ use Rattle.wal_types.specs.Settings.{within}
 use Rattle.index_hash.specs.declared.Probe.{Probe}
 use Rattle.index_hash.specs.declared.Probe.the-variants.{At, Nothing}
 use Rattle.index_hash.proofs.Probed.{probe-below}
+use Rattle.index_hash.proofs.Looked.{looked-cells}
 use Rattle.index_find.specs.declared.find.Lookup.{Lookup}
 use Rattle.index_find.specs.declared.find.Lookup.the-variants.{Frame, NoFrame}
 use Rattle.index_find.specs.Index.{block-cells-of, block-pages-of}
-use Rattle.index_find.specs.Find.{probe-block, looked-up, else-look, find-in}
+use Rattle.index_find.specs.Find.{probe-block, looked-block, looked-up, else-look, find-in, if-none, summed-in, looked-in, blocks-for}
 use Rattle.index_find.specs.InnerFound.{InBlock}
+
+if-none-le : (r : Lookup) (n : ℕ) → if-none r n ≤ n
+if-none-le (Frame f) n = omega arith
+if-none-le NoFrame n = omega arith
 
 -- the place that a block's probe finds is one of its 4,096
 pub found-in-block : (k page n : ℕ) (ps hs : List ℕ) (r : Probe) → r ≡ probe-block k page n ps hs → InBlock r
@@ -72,3 +77,54 @@ module _ (n : ℕ) (ps fs hs : List ℕ) (page low high : ℕ) where
   unfolding find-in
   blocks-done zero l = refl
   blocks-done (suc k) l = absurd (omega arith)
+
+  -- THE CELLS LOOKED AT, block by block
+  abbrev of-block : ℕ → ℕ
+  of-block k = looked-block k page n hs
+
+  abbrev cells : ℕ → ℕ
+  cells k = looked-in k n ps fs hs page low high
+
+  next-cells : (k : ℕ) → cells (suc k) ≡ of-block k + if-none (in-block k) (cells k)
+  unfolding summed-in
+  next-cells k = refl
+
+  -- c are counted, and the last block of k has d: those of the blocks before count only where it has no frame
+  module _ (k c d total : ℕ) (l : 0 < k) (so-far : c + cells k ≡ total) (here : d ≡ of-block (k - 1)) (r : Lookup) (looked-here : r ≡ in-block (k - 1)) where
+    split : c + (d + if-none r (cells (k - 1))) ≡ total
+    split =
+        let e : k ≡ suc (k - 1) = omega arith in
+        let s : cells k ≡ of-block (k - 1) + if-none r (cells (k - 1)) = ap cells e ∙ next-cells (k - 1) ∙ ap (λ (x : Lookup). of-block (k - 1) + if-none x (cells (k - 1))) (sym looked-here) in
+        omega arith
+
+    pub cells-found : (f : ℕ) → r ≡ Frame f → c + d ≡ total
+    cells-found f g = omega (arith, rw g at split)
+
+    pub cells-passed : r ≡ NoFrame → c + d + cells (k - 1) ≡ total
+    cells-passed g = omega (arith, rw g at split)
+
+  -- the block taken last is put back
+  pub cells-back : (k c total : ℕ) → 0 < k → c + cells k ≡ total → c + cells (k - 1 + 1) ≡ total
+  cells-back k c total l e = let s : k - 1 + 1 ≡ k = omega arith in rw s e
+
+  pub cells-done : (k c total : ℕ) → k ≤ 0 → c + cells k ≡ total → c ≡ total
+  unfolding summed-in
+  cells-done zero c total l e = omega (arith, e)
+  cells-done (suc k) c total l e = absurd (omega arith)
+
+  -- no more than the blocks have
+  block-most : (k : ℕ) → of-block k ≤ 8192
+  block-most k = looked-cells (block-cells-of k hs) page (min (n - 4096 * k) 4096)
+
+  pub cells-most : (k : ℕ) → cells k ≤ 8192 * k
+  unfolding summed-in
+  cells-most zero = omega arith
+  cells-most (suc k) = omega (arith, block-most k, if-none-le (in-block k) (cells k), cells-most k)
+
+  -- so there is room to count one block more
+  pub cells-small : (k blocks c d j : ℕ) → c + cells k ≡ cells blocks → blocks ≤ 16 → d ≡ of-block j → c + d ≤ 17 * 8192
+  cells-small k blocks c d j e l here = omega (arith, cells-most blocks, block-most j)
+
+  -- and a lookup's sum is small
+  pub cells-within : (c : ℕ) → blocks-for n ≤ 16 → c ≡ cells (blocks-for n) → c ≤ 16 * 8192
+  cells-within c l e = omega (arith, cells-most (blocks-for n))

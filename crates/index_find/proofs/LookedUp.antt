@@ -4,7 +4,7 @@ use mathlib.Core.List.{List, []}
 use Prim.Native.Nat.{ℕ, _<_, _≤_}
 use native.Mathlib.Omega.{arith}
 use lib.ListN.{length}
-use borrow.Author.Tests.{lt-ltb, le-ltb}
+use borrow.Author.Tests.{eq-eqb, ne-eqb, lt-ltb, le-ltb}
 use Rattle.wal_types.specs.declared.Header.{Header}
 use Rattle.wal_types.specs.Memory.{Memory, Process}
 use Rattle.wal_types.specs.Refusal.{Test}
@@ -12,7 +12,7 @@ use Rattle.wal_types.specs.Call.{Call, Answer, refused, none, does, done, after
 use Rattle.index_find.specs.declared.find.Watermark.{Watermark}
 use Rattle.index_find.specs.declared.find.Lookup.{Lookup}
 use Rattle.index_find.specs.Index.{index-refusal, index-in}
-use Rattle.index_find.specs.Find.{visible, find-in, blocks-for, BlocksFit, upper, lower, lookup-answer, find-answer, find-frame}
+use Rattle.index_find.specs.Find.{visible, find-in, looked-in, blocks-for, BlocksFit, upper, lower, lookup-answer, find-answer, find-frame, find-looked}
 use Rattle.index_find.proofs.Settings.{GoodSettings, LongEnough}
 use Rattle.index_find.proofs.Refused.{index-refused, index-passed}
 
@@ -49,5 +49,29 @@ module _ (capacity b page low high : ℕ) (w : Watermark) (z : Memory) (h : Head
     find-empty l = answers none (rw (← eu, lt-ltb u low l))
 
     -- otherwise what the visible blocks give
-    pub find-looked : low ≤ u → (l v : ℕ) (r : Lookup) → l ≡ lower low w → v ≡ visible fs (h .«frame_index_len») u → r ≡ find-in (blocks-for v) v ps fs hs page l u → after (find-frame capacity b page low high w) m p ≡ done (lookup-answer r) m p
-    find-looked le l v r el ev er = answers (lookup-answer r) (rw (← eu, le-ltb u low le, ← ev, ← el, ← er))
+    pub find-through : low ≤ u → (l v : ℕ) (r : Lookup) → l ≡ lower low w → v ≡ visible fs (h .«frame_index_len») u → r ≡ find-in (blocks-for v) v ps fs hs page l u → after (find-frame capacity b page low high w) m p ≡ done (lookup-answer r) m p
+    find-through le l v r el ev er = answers (lookup-answer r) (rw (← eu, le-ltb u low le, ← ev, ← el, ← er))
+
+-- how many cells it looks at
+module _ (capacity b page low high : ℕ) (w : Watermark) (z : Memory) (h : Header) (ps fs hs : List ℕ) where
+  abbrev number : ℕ
+  number = index-refusal capacity b h (length ps) (length fs) (length hs)
+
+  abbrev count : ℕ
+  count = find-looked capacity b page low high w (index-in z h ps fs hs)
+
+  -- refused: none
+  pub count-refused : (number ≡ 0 → ⊥) → 0 ≡ count
+  unfolding find-looked
+  count-refused i = rw (ne-eqb number 0 i)
+
+  module _ (passed : number ≡ 0) (u : ℕ) (eu : u ≡ upper high w) where
+    -- upper below min: none
+    pub count-empty : u < low → 0 ≡ count
+    unfolding find-looked
+    count-empty l = rw (eq-eqb number 0 passed, ← eu, lt-ltb u low l)
+
+    -- otherwise those of the visible blocks
+    pub count-looked : low ≤ u → (l v c : ℕ) → l ≡ lower low w → v ≡ visible fs (h .«frame_index_len») u → c ≡ looked-in (blocks-for v) v ps fs hs page l u → c ≡ count
+    unfolding find-looked
+    count-looked le l v c el ev ec = rw (eq-eqb number 0 passed, ← eu, le-ltb u low le, ← ev, ← el) ec

@@ -2,14 +2,15 @@
 use mathlib.Core.Bool.{cond}
 use mathlib.Core.List.{List, []}
 use Prim.Native.Nat.{ℕ, zero, suc, _+_, _-_, _*_, _/_, _≤_, min}
-use lib.Dec.{leb, ltb}
+use lib.Dec.{eqb, leb, ltb}
 use lib.ListN.{getD}
 use Rattle.wal_types.specs.Settings.{within, block-entries, entries-for, cells-for}
 use Rattle.wal_types.specs.Memory.{Memory}
+use Rattle.wal_types.specs.Refusal.{lowest}
 use Rattle.wal_types.specs.Call.{Call, Answer, refused, frame-found, none, does, unless}
 use Rattle.index_hash.specs.declared.Probe.{Probe}
 use Rattle.index_hash.specs.declared.Probe.the-variants.{At, Nothing}
-use Rattle.index_hash.specs.Block.{probe}
+use Rattle.index_hash.specs.Block.{probe, looked}
 use Rattle.index_find.specs.declared.find.Watermark.{Watermark}
 use Rattle.index_find.specs.declared.find.Watermark.the-variants.{UpTo, NoWatermark}
 use Rattle.index_find.specs.declared.find.Lookup.{Lookup}
@@ -51,6 +52,26 @@ find-in zero n pages frames hash page low high = NoFrame
 find-in (suc k) n pages frames hash page low high =
     else-look (looked-up k frames low high (probe-block k page n pages hash)) (find-in k n pages frames hash page low high)
 
+-- how many cells of block k's hash its probe looks at
+abbrev pub looked-block : ℕ → ℕ → ℕ → List ℕ → ℕ
+looked-block k page n hash = looked (block-cells-of k hash) page (min (n - entries-for k) block-entries)
+
+-- what the blocks before add: nothing where this one has the frame
+abbrev pub if-none : Lookup → ℕ → ℕ
+if-none (Frame f) rest = 0
+if-none NoFrame rest = rest
+
+-- A number of each block, summed over the blocks that are probed: from the last one down to the one that has the frame, that
+-- one included.
+unfoldable pub summed-in : (ℕ → ℕ) → ℕ → ℕ → List ℕ → List ℕ → List ℕ → ℕ → ℕ → ℕ → ℕ
+summed-in of-block zero n pages frames hash page low high = 0
+summed-in of-block (suc k) n pages frames hash page low high =
+    of-block k + if-none (looked-up k frames low high (probe-block k page n pages hash)) (summed-in of-block k n pages frames hash page low high)
+
+-- the cells that the probes of these blocks look at
+abbrev pub looked-in : ℕ → ℕ → List ℕ → List ℕ → List ℕ → ℕ → ℕ → ℕ → ℕ
+looked-in k n pages frames hash page low high = summed-in (λ i. looked-block i page n hash) k n pages frames hash page low high
+
 -- The upper bound is the watermark if given, else max. With a watermark the lower bound is 0.
 abbrev pub upper : ℕ → Watermark → ℕ
 upper high (UpTo w) = w
@@ -88,8 +109,31 @@ unfoldable pub find-frame : ℕ → ℕ → ℕ → ℕ → ℕ → Watermark �
 find-frame capacity b page low high w =
     unless (λ m p. index-tests capacity b m) (λ m. does (find-answer page low high w m) (λ z. []) m)
 
--- What each case of the answer tells.
+-- A number of each block, given the block and how many entries are visible, summed over the blocks that the lookup probes.
+-- Upper below min, or no visible entry: no block.
+abbrev pub summed-answer : (ℕ → ℕ → ℕ) → ℕ → ℕ → ℕ → Watermark → Memory → ℕ
+summed-answer of-block page low high w m =
+    cond (ltb (upper high w) low) 0
+    (summed-in (λ k. of-block k (visible (m .frames) (m .header .«frame_index_len») (upper high w)))
+    (blocks-for (visible (m .frames) (m .header .«frame_index_len») (upper high w)))
+    (visible (m .frames) (m .header .«frame_index_len») (upper high w))
+    (m .pages) (m .frames) (m .hash) page (lower low w) (upper high w))
+
+-- HOW MANY HASH CELLS A LOOKUP LOOKS AT (document 02, Slip 1): those of each block's probe
+abbrev pub looked-answer : ℕ → ℕ → ℕ → Watermark → Memory → ℕ
+looked-answer page low high w m = summed-answer (λ k n. looked-block k page n (m .hash)) page low high w m
+
+-- a refused lookup looks at none
+unfoldable pub find-looked : ℕ → ℕ → ℕ → ℕ → ℕ → Watermark → Memory → ℕ
+find-looked capacity b page low high w m = cond (eqb (lowest (index-tests capacity b m)) 0) (looked-answer page low high w m) 0
+
+-- What each case of the answer tells: the answer, and the cells.
 abbrev pub found-answer : FindAnswer → Answer
-found-answer (FoundFrame f) = frame-found f
-found-answer FoundNone = none
+found-answer (FoundFrame f cells) = frame-found f
+found-answer (FoundNone cells) = none
 found-answer (Refused n) = refused n
+
+abbrev pub cells-told : FindAnswer → ℕ
+cells-told (FoundFrame f cells) = cells
+cells-told (FoundNone cells) = cells
+cells-told (Refused n) = 0

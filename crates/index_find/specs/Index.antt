@@ -100,3 +100,7 @@ IndexCarried carried h pages frames hash a h′ pages′ frames′ hash′ =
 
 abbrev pub IndexCall : Call → Header → List ℕ → List ℕ → List ℕ → Answer → Header → List ℕ → List ℕ → List ℕ → Type 0
 IndexCall call = IndexCarried (after call)
+
+-- On any memory with this header and index in it, the number is c.
+abbrev pub IndexNumber : (Memory → ℕ) → Header → List ℕ → List ℕ → List ℕ → ℕ → Type 0
+IndexNumber number-of h pages frames hash c = (z : Memory) → c ≡ number-of (index-in z h pages frames hash)

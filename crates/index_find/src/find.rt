@@ -5,6 +5,7 @@ use index_hash::BLOCK_ENTRIES;
 use index_hash::Probe;
 use index_search::probe;
 use index_search::probe::Near;
+use index_search::probe::Probed;
 use wal_types::Header;
 ghost use mathlib.Core.Path.{_≡_};
 ghost use Prim.Native.Nat.{_+_, _-_, _*_, _<_, _≤_, min};
@@ -12,9 +13,9 @@ ghost use lib.ListN.{length};
 ghost use Rattle.wal_types.specs.Settings.{block-entries, block-cells};
 ghost use Rattle.index_hash.specs.Home.{home};
 ghost use Rattle.index_search.specs.InnerRun.{NearFit, Answers};
-ghost use Rattle.index_find.specs.Index.{IndexCall};
-ghost use Rattle.index_find.specs.Find.{visible, probe-block, looked-up, find-in, blocks-for, BlocksFit, upper, lower, find-frame, found-answer};
-ghost use Rattle.index_find.specs.InnerFound.{InBlock};
+ghost use Rattle.index_find.specs.Index.{IndexCall, IndexNumber};
+ghost use Rattle.index_find.specs.Find.{visible, probe-block, looked-block, looked-up, find-in, looked-in, blocks-for, BlocksFit, upper, lower, find-frame, find-looked, found-answer, cells-told};
+ghost use Rattle.index_find.specs.InnerFound.{InBlock, NearTold};
 
 // The last place in a block.
 const LAST_PLACE: usize = BLOCK_ENTRIES - 1;
@@ -49,17 +50,31 @@ pub enum Lookup {
     NoFrame,
 }
 
-// Nothing changes: the answer alone.
+// What the blocks tell: the frame found, or none, and how many hash cells were looked at.
+pub struct Looked {
+    pub found: Lookup,
+    pub cells: usize,
+}
+
+// What the near cells of the blocks tell, with the cells that were looked at: the frame, or that there is none; or that the
+// first so many blocks are left, of which the last has further cells.
+pub enum NearBlocks {
+    Found(u64, usize),
+    NotFound(usize),
+    Left(usize, usize),
+}
+
+// Nothing changes: the answer alone, and how many hash cells were looked at.
 pub enum FindAnswer {
-    Frame(u64),
-    NoFrame,
+    Frame(u64, u32),
+    NoFrame(u32),
     Refused(u32),
 }
 
 // Probes block k for the page among its visible entries.
-fn probe_block(pages: &[u64], hash: &[u16], k: usize, page_id: u64, visible_slots: usize) -> Probe
+fn probe_block(pages: &[u64], hash: &[u16], k: usize, page_id: u64, visible_slots: usize) -> Probed
     requires { ⌜ ((k < 16) × (block-cells * k + block-cells ≤ length (now hash))) × (block-entries * k + block-entries ≤ length (now pages)) ⌝ }
-    ensures { λ r. ⌜ r ≡ probe-block k «page_id» «visible_slots» (now (pages .entry)) (now (hash .entry)) ⌝ }
+    ensures { λ r. ⌜ (r .found ≡ probe-block k «page_id» «visible_slots» (now (pages .entry)) (now (hash .entry))) × (r .cells ≡ looked-block k «page_id» «visible_slots» (now (hash .entry))) ⌝ }
 {
     let a = BLOCK_CELLS * k;
     let e = a + BLOCK_CELLS;
@@ -79,7 +94,7 @@ fn probe_near_in_block(
     visible_slots: usize,
 ) -> Near
     requires { ⌜ (((k < 16) × (block-cells * k + block-cells ≤ length (now hash))) × (block-entries * k + block-entries ≤ length (now pages))) × ((from ≡ home «page_id») × NearFit from) ⌝ }
-    ensures { λ r. ⌜ Answers (probe-block k «page_id» «visible_slots» (now (pages .entry)) (now (hash .entry))) r ⌝ }
+    ensures { λ r. ⌜ Answers (probe-block k «page_id» «visible_slots» (now (pages .entry)) (now (hash .entry))) (looked-block k «page_id» «visible_slots» (now (hash .entry))) r ⌝ }
 {
     let a = BLOCK_CELLS * k;
     let e = a + BLOCK_CELLS;
@@ -137,25 +152,70 @@ fn find_along_runs(
     visible_slots: usize,
     min_frame: u64,
     max_frame: u64,
-) -> Lookup
+) -> Looked
     requires { ⌜ BlocksFit «visible_slots» (length (now pages)) (length (now frames)) (length (now hash)) × (blocks ≤ blocks-for «visible_slots») ⌝ }
-    ensures { λ r. ⌜ r ≡ find-in blocks «visible_slots» (now (pages .entry)) (now (frames .entry)) (now (hash .entry)) «page_id» «min_frame» «max_frame» ⌝ }
+    ensures { λ r. ⌜ (r .found ≡ find-in blocks «visible_slots» (now (pages .entry)) (now (frames .entry)) (now (hash .entry)) «page_id» «min_frame» «max_frame») × (r .cells ≡ looked-in blocks «visible_slots» (now (pages .entry)) (now (frames .entry)) (now (hash .entry)) «page_id» «min_frame» «max_frame») ⌝ }
 {
     let mut rest = blocks;
+    let mut cells = 0;
     while 0 < rest {
         rest -= 1;
         let probed = probe_block(pages, hash, rest, page_id, visible_slots);
-        let found = frame_found(frames, rest, probed, min_frame, max_frame);
+        cells += probed.cells;
+        let place = probed.found;
+        let found = frame_found(frames, rest, place, min_frame, max_frame);
         if let Lookup::Frame(frame_id) = found {
-            return Lookup::Frame(frame_id);
+            return Looked {
+                found: Lookup::Frame(frame_id),
+                cells: cells,
+            };
         }
     }
-    Lookup::NoFrame
+    Looked {
+        found: Lookup::NoFrame,
+        cells: cells,
+    }
 }
 
-// The blocks of the visible entries, from the last down, each by the near cells, where most probes end. The first block
-// whose probe does not end there, and the blocks before it, are left to a loop of its own: with both ways in one loop the
-// compiler computes in each turn the addresses that only the long way needs.
+// The blocks of the visible entries, from the last down, each by the near cells, where most probes end; up to the first
+// block whose probe does not end there.
+fn find_near(
+    pages: &[u64],
+    frames: &[u64],
+    hash: &[u16],
+    page_id: u64,
+    visible_slots: usize,
+    min_frame: u64,
+    max_frame: u64,
+) -> NearBlocks
+    requires { ⌜ BlocksFit «visible_slots» (length (now pages)) (length (now frames)) (length (now hash)) ⌝ }
+    ensures { λ r. ⌜ NearTold (λ k. find-in k «visible_slots» (now (pages .entry)) (now (frames .entry)) (now (hash .entry)) «page_id» «min_frame» «max_frame») (λ k. looked-in k «visible_slots» (now (pages .entry)) (now (frames .entry)) (now (hash .entry)) «page_id» «min_frame» «max_frame») (blocks-for «visible_slots») r ⌝ }
+{
+    let from = index_hash::hash_page_id(page_id);
+    let mut k = (visible_slots + LAST_PLACE) / BLOCK_ENTRIES;
+    if probe::is_home_late(from) {
+        return NearBlocks::Left(k, 0);
+    }
+    let mut cells = 0;
+    while 0 < k {
+        k -= 1;
+        let near = probe_near_in_block(pages, hash, k, page_id, from, visible_slots);
+        let Near::Ended(ended) = near else {
+            return NearBlocks::Left(k + 1, cells);
+        };
+        cells += ended.cells;
+        let place = ended.found;
+        let found = frame_found(frames, k, place, min_frame, max_frame);
+        if let Lookup::Frame(frame_id) = found {
+            return NearBlocks::Found(frame_id, cells);
+        }
+    }
+    NearBlocks::NotFound(cells)
+}
+
+// The blocks of the visible entries, from the last down, by the near cells. The first block whose probe does not end there,
+// and the blocks before it, have a loop of their own: with both ways in one loop the compiler computes in each turn the
+// addresses that only the long way needs.
 fn find_in_blocks(
     pages: &[u64],
     frames: &[u64],
@@ -164,45 +224,46 @@ fn find_in_blocks(
     visible_slots: usize,
     min_frame: u64,
     max_frame: u64,
-) -> Lookup
+) -> Looked
     requires { ⌜ BlocksFit «visible_slots» (length (now pages)) (length (now frames)) (length (now hash)) ⌝ }
-    ensures { λ r. ⌜ r ≡ find-in (blocks-for «visible_slots») «visible_slots» (now (pages .entry)) (now (frames .entry)) (now (hash .entry)) «page_id» «min_frame» «max_frame» ⌝ }
+    ensures { λ r. ⌜ (r .found ≡ find-in (blocks-for «visible_slots») «visible_slots» (now (pages .entry)) (now (frames .entry)) (now (hash .entry)) «page_id» «min_frame» «max_frame») × (r .cells ≡ looked-in (blocks-for «visible_slots») «visible_slots» (now (pages .entry)) (now (frames .entry)) (now (hash .entry)) «page_id» «min_frame» «max_frame») ⌝ }
 {
-    let from = index_hash::hash_page_id(page_id);
-    let mut k = (visible_slots + LAST_PLACE) / BLOCK_ENTRIES;
-    if probe::is_home_late(from) {
-        return find_along_runs(
-            pages,
-            frames,
-            hash,
-            k,
-            page_id,
-            visible_slots,
-            min_frame,
-            max_frame,
-        );
-    }
-    while 0 < k {
-        k -= 1;
-        let near = probe_near_in_block(pages, hash, k, page_id, from, visible_slots);
-        let Near::Ended(probed) = near else {
-            return find_along_runs(
+    let near = find_near(
+        pages,
+        frames,
+        hash,
+        page_id,
+        visible_slots,
+        min_frame,
+        max_frame,
+    );
+    match near {
+        NearBlocks::Found(frame_id, cells) => Looked {
+            found: Lookup::Frame(frame_id),
+            cells: cells,
+        },
+        NearBlocks::NotFound(cells) => Looked {
+            found: Lookup::NoFrame,
+            cells: cells,
+        },
+        NearBlocks::Left(blocks, counted) => {
+            let rest = find_along_runs(
                 pages,
                 frames,
                 hash,
-                k + 1,
+                blocks,
                 page_id,
                 visible_slots,
                 min_frame,
                 max_frame,
             );
-        };
-        let found = frame_found(frames, k, probed, min_frame, max_frame);
-        if let Lookup::Frame(frame_id) = found {
-            return Lookup::Frame(frame_id);
+            let found = rest.found;
+            Looked {
+                found: found,
+                cells: counted + rest.cells,
+            }
         }
     }
-    Lookup::NoFrame
 }
 
 // The upper bound, and the lower bound, of a search.
@@ -224,7 +285,7 @@ fn lower_frame(min_frame: u64, frame_watermark: Watermark) -> u64
     }
 }
 
-// Looks up the latest frame of the page within the bounds.
+// Looks up the latest frame of the page within the bounds, and counts the hash cells that it looks at.
 pub fn find_frame(
     capacity: u32,
     max_blocks: u32,
@@ -237,7 +298,7 @@ pub fn find_frame(
     max_frame: u64,
     frame_watermark: Watermark,
 ) -> FindAnswer
-    ensures { λ r. ⌜ IndexCall (find-frame capacity «max_blocks» «page_id» «min_frame» «max_frame» «frame_watermark») header (now (pages .entry)) (now (frames .entry)) (now (hash .entry)) (found-answer r) header (now (pages .entry)) (now (frames .entry)) (now (hash .entry)) ⌝ }
+    ensures { λ r. ⌜ IndexCall (find-frame capacity «max_blocks» «page_id» «min_frame» «max_frame» «frame_watermark») header (now (pages .entry)) (now (frames .entry)) (now (hash .entry)) (found-answer r) header (now (pages .entry)) (now (frames .entry)) (now (hash .entry)) × IndexNumber (find-looked capacity «max_blocks» «page_id» «min_frame» «max_frame» «frame_watermark») header (now (pages .entry)) (now (frames .entry)) (now (hash .entry)) (cells-told r) ⌝ }
 {
     let refusal = index::index_refusal(
         capacity,
@@ -252,14 +313,16 @@ pub fn find_frame(
     }
     let upper = upper_frame(max_frame, frame_watermark);
     if upper < min_frame {
-        return FindAnswer::NoFrame;
+        return FindAnswer::NoFrame(0);
     }
     let lower = lower_frame(min_frame, frame_watermark);
     let len = header.frame_index_len as usize;
     let visible_slots = visible_frame_index_slots(frames, len, upper);
-    let found = find_in_blocks(pages, frames, hash, page_id, visible_slots, lower, upper);
+    let looked = find_in_blocks(pages, frames, hash, page_id, visible_slots, lower, upper);
+    let cells = looked.cells as u32;
+    let found = looked.found;
     let Lookup::Frame(frame_id) = found else {
-        return FindAnswer::NoFrame;
+        return FindAnswer::NoFrame(cells);
     };
-    FindAnswer::Frame(frame_id)
+    FindAnswer::Frame(frame_id, cells)
 }

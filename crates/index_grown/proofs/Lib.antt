@@ -9,6 +9,7 @@ pub mod Places
 pub mod Records
 pub mod Rollbacks
 pub mod Grows
+pub mod Looked
 pub mod Unique
 pub mod Listed
 pub mod Answers

@@ -3,4 +3,5 @@ pub mod Entries
 pub mod Grown
 pub mod Calls
 pub mod Listed
+pub mod Looked
 pub mod Cases

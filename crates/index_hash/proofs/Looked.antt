@@ -1,4 +1,4 @@
--- How many cells a probe of a built block looks at. Assumes nothing.
+-- How many cells a probe looks at: of a built block, and of any. Assumes nothing.
 use mathlib.Core.Path.{_≡_, refl}
 use mathlib.Core.List.{List}
 use Prim.Native.Nat.{ℕ, zero, suc, _+_, _-_, _≤_}
@@ -7,7 +7,7 @@ use lib.Dec.{eqb, ltb}
 use lib.ListN.{getD}
 use borrow.Author.Count.{below-more}
 use borrow.Author.Tests.{eqb-false}
-use Rattle.index_hash.specs.Home.{cell-at}
+use Rattle.index_hash.specs.Home.{home, next-cell, cell-at}
 use Rattle.index_hash.specs.Block.{built, looked-from, looked}
 use Rattle.index_hash.proofs.Home.{cell-at-home, cell-at-next}
 use Rattle.index_hash.proofs.Empty.{by-test, AllUsed}
@@ -30,3 +30,17 @@ module _ (pages : List ℕ) (n page visible : ℕ) where
   pub looked-le : looked (built pages n) page visible ≤ n + 1
   unfolding looked
   looked-le = rw (← cell-at-home page) (omega (arith, from 8192 0 refl (λ k l. absurd (omega arith))))
+
+-- on any contents no more than there are cells
+looked-from-le : (m : ℕ) (h : List ℕ) (visible cell : ℕ) → looked-from m h visible cell ≤ m
+unfolding looked-from
+looked-from-le zero h visible cell = omega arith
+looked-from-le (suc m) h visible cell =
+    by-test (λ (x : ℕ). x ≤ suc m) (eqb (getD h cell 0) 0) (λ t. omega arith)
+    (λ t. by-test (λ (x : ℕ). x ≤ suc m) (ltb (getD h cell 0 - 1) visible)
+    (λ s. omega (arith, looked-from-le m h visible (next-cell cell)))
+    (λ s. omega arith))
+
+pub looked-cells : (h : List ℕ) (page visible : ℕ) → looked h page visible ≤ 8192
+unfolding looked
+looked-cells h page visible = looked-from-le 8192 h visible (home page)

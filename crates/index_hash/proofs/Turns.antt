@@ -1,8 +1,8 @@
--- One turn of the search for an empty cell and of the probe. Assumes nothing.
+-- One turn of the search for an empty cell, of the probe and of its count. Assumes nothing.
 use mathlib.Core.Path.{_≡_, ap}
 use mathlib.Core.Bool.{cond}
 use mathlib.Core.List.{List}
-use Prim.Native.Nat.{ℕ, suc, _-_, _<_, _≤_}
+use Prim.Native.Nat.{ℕ, suc, _+_, _-_, _<_, _≤_}
 use native.Mathlib.Omega.{arith}
 use lib.Dec.{eqb}
 use lib.ListN.{getD}
@@ -12,7 +12,7 @@ use Rattle.index_hash.specs.declared.Cell.the-variants.{Empty, Full}
 use Rattle.index_hash.specs.declared.Probe.{Probe}
 use Rattle.index_hash.specs.declared.Probe.the-variants.{At, Nothing}
 use Rattle.index_hash.specs.Home.{home, next-cell}
-use Rattle.index_hash.specs.Block.{empty-from, probe-from, probe}
+use Rattle.index_hash.specs.Block.{empty-from, probe-from, probe, looked-from}
 
 -- the search for an empty cell, with n cells left
 module _ (n : ℕ) (h : List ℕ) (cell : ℕ) (whole : Cell) (so-far : empty-from n h cell ≡ whole) where
@@ -69,3 +69,26 @@ module _ (n : ℕ) (h pages : List ℕ) (page visible cell : ℕ) (latest whole 
       pub probe-at-page : getD pages (getD h cell 0 - 1) 0 ≡ page → probe-from m h pages page visible (next-cell cell) (At (getD h cell 0 - 1)) ≡ whole
       unfolding probe-from
       probe-at-page e = simp (more, ne-eqb _ _ used, lt-ltb _ _ seen, eq-eqb _ _ e) at so-far
+
+-- the count of the cells looked at, with n cells left
+module _ (n : ℕ) (h : List ℕ) (visible cell : ℕ) where
+  -- no cell is left
+  pub looked-none-left : n ≡ 0 → looked-from n h visible cell ≡ 0
+  unfolding looked-from
+  looked-none-left s = rw s
+
+  -- an empty cell counts and ends it
+  pub looked-at-empty : 0 < n → getD h cell 0 ≡ 0 → looked-from n h visible cell ≡ 1
+  unfolding looked-from
+  looked-at-empty l z = let more : n ≡ suc (n - 1) = omega arith in rw (more, eq-eqb _ _ z)
+
+  module _ (used : getD h cell 0 ≡ 0 → ⊥) where
+    -- so does one that names an entry beyond the visible ones
+    pub looked-at-hidden : 0 < n → visible ≤ getD h cell 0 - 1 → looked-from n h visible cell ≡ 1
+    unfolding looked-from
+    looked-at-hidden l v = let more : n ≡ suc (n - 1) = omega arith in rw (more, ne-eqb _ _ used, le-ltb _ _ v)
+
+    -- a visible entry counts, and it goes on
+    pub looked-at-live : (m : ℕ) → n ≡ suc m → getD h cell 0 - 1 < visible → looked-from n h visible cell ≡ 1 + looked-from m h visible (next-cell cell)
+    unfolding looked-from
+    looked-at-live m more seen = rw (more, ne-eqb _ _ used, lt-ltb _ _ seen)

@@ -2,20 +2,20 @@
 use mathlib.Core.Path.{_≡_, refl, sym, ap, ap₂, _∙_}
 use mathlib.Core.Bool.{Bool, true, false, cond}
 use mathlib.Core.List.{List}
-use Prim.Native.Nat.{ℕ, zero, suc, _+_, _-_, _%_, _<_, _≤_}
-use native.Mathlib.Decide.{decLt}
+use Prim.Native.Nat.{ℕ, zero, suc, _+_, _-_, _%_, _<_, _≤_, min}
+use native.Mathlib.Decide.{decLt, ℕ-discrete}
 use native.Mathlib.Omega.{arith}
 use lib.Dec.{eqb, ltb}
 use lib.ListN.{getD}
-use borrow.Author.Tests.{eqb-true, eqb-false, ltb-true, ltb-false, eq-eqb, ne-eqb}
+use borrow.Author.Tests.{eqb-false, ltb-true, eq-eqb, ne-eqb}
 use Rattle.index_hash.specs.declared.Cell.{Cell}
 use Rattle.index_hash.specs.declared.Cell.the-variants.{Empty, Full}
 use Rattle.index_hash.specs.declared.Probe.{Probe}
 use Rattle.index_hash.specs.declared.Probe.the-variants.{At, Nothing}
 use Rattle.index_hash.specs.Home.{home, next-cell}
-use Rattle.index_hash.specs.Block.{empty-from, empty-cell, probe-from, probe}
+use Rattle.index_hash.specs.Block.{empty-from, empty-cell, probe-from, probe, looked-from, looked}
 use Rattle.index_hash.proofs.Empty.{by-test}
-use Rattle.index_hash.proofs.Turns.{none-left, at-used, at-empty, probe-at-live}
+use Rattle.index_hash.proofs.Turns.{none-left, at-used, at-empty, probe-at-live, looked-none-left, looked-at-empty, looked-at-hidden, looked-at-live}
 use Rattle.index_search.proofs.Runs.{one-at-least}
 use Rattle.index_search.specs.InnerRun.{All, Live, Used, page-named, Other, met-in, entry-named}
 
@@ -87,9 +87,14 @@ module _ (h : List ℕ) where
   unfolding empty-cell
   found-near m from page c l e f = found-sooner m 8192 (home page) c l (rw e at f)
 
+-- the cell of the next turn
+pub next-turn : (from turn : ℕ) → next-cell (from + turn) ≡ (from + (turn + 1)) % 8192
+unfolding next-cell
+next-turn from turn = omega arith
+
 module _ (h pages : List ℕ) (page visible : ℕ) where
   -- the probe starts at the page's home, with nothing met
-  pub probe-start : (from : ℕ) → from < 8192 → from ≡ home page → probe-from (8192 - (from - from)) h pages page visible (from % 8192) Nothing ≡ probe h pages page visible
+  pub probe-start : (from : ℕ) → from < 8192 → from ≡ home page → probe-from (8192 - 0) h pages page visible ((from + 0) % 8192) Nothing ≡ probe h pages page visible
   unfolding probe
   probe-start from b e = ap₂ (λ (n c : ℕ). probe-from n h pages page visible c Nothing) (omega arith) (omega arith)
 
@@ -163,6 +168,94 @@ module _ (h pages : List ℕ) (page visible : ℕ) where
       go : Dec (end < from) → met-in h pages page 0 end met ≡ probe-from (from - end) h pages page visible end (met-in h pages page 0 end met)
       go (yes s) = sym (probe-stops (from - end) end (met-in h pages page 0 end met) (dead s))
       go (no s) = sym (probe-over (from - end) end (met-in h pages page 0 end met) (omega arith))
+
+-- HOW MANY CELLS: the count of the probe by the same runs
+module _ (h : List ℕ) (visible : ℕ) where
+  -- one cell of the block, with c cells counted and n cells left
+  module _ (n c cell whole : ℕ) (b : cell < 8192) (l : 0 < n) (so-far : c + looked-from n h visible (cell % 8192) ≡ whole) where
+    here : c + looked-from n h visible cell ≡ whole
+    here = let e : cell % 8192 ≡ cell = omega arith in rw e at so-far
+
+    -- an empty one, and one that names an entry beyond the visible ones, counts and ends it
+    pub count-empty : getD h cell 0 ≡ 0 → c + 1 ≡ whole
+    count-empty z = omega (arith, here, looked-at-empty n h visible cell l z)
+
+    pub count-hidden : (getD h cell 0 ≡ 0 → ⊥) → visible ≤ getD h cell 0 - 1 → c + 1 ≡ whole
+    count-hidden used v = omega (arith, here, looked-at-hidden n h visible cell used l v)
+
+    -- a live one counts, and it goes on
+    pub count-live : (getD h cell 0 ≡ 0 → ⊥) → getD h cell 0 - 1 < visible → (m : ℕ) → n ≡ suc m → c + 1 + looked-from m h visible (next-cell cell) ≡ whole
+    count-live used seen m more = omega (arith, here, looked-at-live n h visible cell used m more seen)
+
+  -- behind live cells it goes on, and they count
+  looked-passed : (from n m : ℕ) → from + n ≤ 8192 → n ≤ m → All (Live h visible) from (from + n) → n + looked-from (m - n) h visible ((from + n) % 8192) ≡ looked-from m h visible (from % 8192)
+  unfolding next-cell
+  looked-passed from zero m b l live =
+      let s : looked-from (m - 0) h visible ((from + 0) % 8192) ≡ looked-from m h visible (from % 8192) = ap₂ (λ (k c : ℕ). looked-from k h visible c) (omega arith) (omega arith) in
+      omega arith
+  looked-passed from (suc n) m b l live =
+      let ih = looked-passed from n m (omega arith) (omega arith) (λ c x y. live c x (omega arith)) in
+      let here : (from + n) % 8192 ≡ from + n = omega arith in
+      let seen = live (from + n) (omega arith) (omega arith) in
+      let on = looked-at-live (m - n) h visible (from + n) (λ z. absurd (omega (arith, seen .0))) (m - suc n) (omega arith) (omega (arith, seen .0, seen .1)) in
+      let next : (from + n + 1) % 8192 ≡ (from + suc n) % 8192 = omega arith in
+      omega (arith, rw here at ih, rw next at on)
+
+  -- a cell that is not live counts one
+  looked-stops : (m cell : ℕ) → 0 < m → (Live h visible cell → ⊥) → looked-from m h visible cell ≡ 1
+  looked-stops m cell l dead = go (ℕ-discrete (getD h cell 0) 0)
+    where
+      go : Dec (getD h cell 0 ≡ 0) → looked-from m h visible cell ≡ 1
+      go (yes z) = looked-at-empty m h visible cell l z
+      go (no used) = hidden used (decLt (getD h cell 0 - 1) visible)
+        where
+          hidden : (getD h cell 0 ≡ 0 → ⊥) → Dec (getD h cell 0 - 1 < visible) → looked-from m h visible cell ≡ 1
+          hidden used (yes s) = absurd (dead (one-at-least _ used, omega arith))
+          hidden used (no s) = looked-at-hidden m h visible cell used l (omega arith)
+
+-- of a page
+module _ (h : List ℕ) (page visible : ℕ) where
+  -- it starts at the page's home, with nothing counted
+  pub looked-start : (from : ℕ) → from < 8192 → from ≡ home page → 0 + looked-from (8192 - 0) h visible ((from + 0) % 8192) ≡ looked h page visible
+  unfolding looked
+  looked-start from b e =
+      let s : looked-from (8192 - 0) h visible ((from + 0) % 8192) ≡ looked-from 8192 h visible (home page) = ap₂ (λ (k c : ℕ). looked-from k h visible c) (omega arith) (omega arith) in
+      omega arith
+
+  -- the whole count, by a run that ends before the block does
+  pub looked-straight : (from end : ℕ) → from ≡ home page → from ≤ end → end < 8192 → All (Live h visible) from end → (Live h visible end → ⊥) → end - from + 1 ≡ looked h page visible
+  unfolding looked
+  looked-straight from end e l b live dead =
+      let to : from + (end - from) ≡ end = omega arith in
+      let at : (from + (end - from)) % 8192 ≡ end = omega arith in
+      let start : from % 8192 ≡ home page = omega arith in
+      let s = looked-passed h visible from (end - from) 8192 (omega arith) (omega arith) (rw to live) in
+      let one = looked-stops h visible (8192 - (end - from)) end (omega arith) dead in
+      omega (arith, one, rw (at, start) at s)
+
+  -- and by one that goes on at the block's first cell
+  pub looked-round : (from end : ℕ) → from ≡ home page → from < 8192 → All (Live h visible) from 8192 → end ≤ from → All (Live h visible) 0 end → (end < from → Live h visible end → ⊥) → min (8192 - from + end + 1) 8192 ≡ looked h page visible
+  unfolding looked
+  looked-round from end e b live l more dead = go (decLt end from)
+    where
+      first : 8192 - from + looked-from from h visible 0 ≡ looked-from 8192 h visible (home page)
+      first =
+          let to : from + (8192 - from) ≡ 8192 = omega arith in
+          let at : (from + (8192 - from)) % 8192 ≡ 0 = omega arith in
+          let left : 8192 - (8192 - from) ≡ from = omega arith in
+          let start : from % 8192 ≡ home page = omega arith in
+          rw (left, at, start) at (looked-passed h visible from (8192 - from) 8192 (omega arith) (omega arith) (rw to live))
+
+      second : end + looked-from (from - end) h visible end ≡ looked-from from h visible 0
+      second =
+          let to : 0 + end ≡ end = omega arith in
+          let at : (0 + end) % 8192 ≡ end = omega arith in
+          let start : 0 % 8192 ≡ 0 = omega arith in
+          rw (at, start) at (looked-passed h visible 0 end from (omega arith) (omega arith) (rw to more))
+
+      go : Dec (end < from) → min (8192 - from + end + 1) 8192 ≡ looked-from 8192 h visible (home page)
+      go (yes s) = omega (arith, first, second, looked-stops h visible (from - end) end (omega arith) (dead s))
+      go (no s) = omega (arith, first, second, looked-none-left (from - end) h visible end (omega arith))
 
 module _ (h pages : List ℕ) (page : ℕ) where
   -- cells that name other pages' entries tell nothing

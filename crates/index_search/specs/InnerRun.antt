@@ -50,7 +50,7 @@ entry-named (suc i) = At i
 abbrev pub NearFit : ℕ → Type 0
 NearFit home = home + 24 ≤ block-cells
 
--- a probe of the near cells has ended with the whole probe's answer, or there are further ones
-abbrev pub Answers : Probe → Near → Type 0
-Answers whole (Ended found) = found ≡ whole
-Answers whole Further = Unit
+-- a probe of the near cells has ended with the whole probe's answer and the cells that it looks at, or there are further ones
+abbrev pub Answers : Probe → ℕ → Near → Type 0
+Answers whole cells (Ended probed) = (probed .found ≡ whole) × (probed .cells ≡ cells)
+Answers whole cells Further = Unit

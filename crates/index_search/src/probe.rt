@@ -4,12 +4,13 @@ use index_hash::BLOCK_CELLS;
 use index_hash::Probe;
 ghost use mathlib.Core.Path.{_≡_};
 ghost use mathlib.Core.Bool.{true, false, not};
-ghost use Prim.Native.Nat.{_+_, _-_, _<_, _≤_};
+ghost use Prim.Native.Nat.{_+_, _-_, _<_, _≤_, min};
 ghost use lib.Dec.{eqb};
 ghost use lib.ListN.{length};
 ghost use Rattle.wal_types.specs.Settings.{block-entries, block-cells};
 ghost use Rattle.index_hash.specs.Home.{home};
-ghost use Rattle.index_hash.specs.Block.{probe};
+ghost use Rattle.index_hash.specs.Block.{probe, looked};
+ghost use Rattle.index_search.specs.declared.probe.Near.the-variants.{Ended};
 ghost use Rattle.index_search.specs.InnerRun.{All, Live, page-named, Other, met-in, entry-named, NearFit, Answers};
 
 // How many cells are looked at one by one before many are at once.
@@ -18,9 +19,15 @@ const NEAR_CELLS: usize = 24;
 // How many cells one look takes.
 const LOOK: usize = 8;
 
+// What a probe tells: the entry found, and how many cells it looked at, the one that ended it too.
+pub struct Probed {
+    pub found: Probe,
+    pub cells: usize,
+}
+
 // What the near cells tell: the answer of the probe that ends among them, or that there are further ones.
 pub enum Near {
-    Ended(Probe),
+    Ended(Probed),
     Further,
 }
 
@@ -41,9 +48,21 @@ fn entry_named(local_plus_one: usize) -> Probe
     Probe::At(local_plus_one - 1)
 }
 
+// The answer of a probe that met this number last and looked at so many cells.
+fn ended(latest: usize, cells: usize) -> Near
+    ensures { λ r. ⌜ r ≡ Ended (record { found = entry-named latest; cells = cells }) ⌝ }
+{
+    let found = entry_named(latest);
+    Near::Ended(Probed {
+        found: found,
+        cells: cells,
+    })
+}
+
 // The probe of the near cells from the page's home on, one by one. An entry that is not visible ends the probe.
 // (So with none visible any cell ends it, and the source's early return for that is not needed.)
-// What is met is kept as the cell's number, 0 for nothing: one register, where a Probe takes two.
+// What is met is kept as the cell's number, 0 for nothing: one register, where a Probe takes two. Turns are counted, not cells:
+// so the compiler, which unrolls the loop, has a constant at each end of it.
 pub fn probe_near(
     hash: &[u16],
     pages: &[u64],
@@ -52,16 +71,16 @@ pub fn probe_near(
     visible_entries: usize,
 ) -> Near
     requires { ⌜ ((length (now hash) ≡ block-cells) × ((«visible_entries» ≤ block-entries) × («visible_entries» ≤ length (now pages)))) × ((from ≡ home «page_id») × NearFit from) ⌝ }
-    ensures { λ r. ⌜ Answers (probe (now (hash .entry)) (now (pages .entry)) «page_id» «visible_entries») r ⌝ }
+    ensures { λ r. ⌜ Answers (probe (now (hash .entry)) (now (pages .entry)) «page_id» «visible_entries») (looked (now (hash .entry)) «page_id» «visible_entries») r ⌝ }
 {
     let mut latest = 0;
-    for cell in from..from + NEAR_CELLS {
-        let local_plus_one = hash[cell] as usize;
+    for turn in 0..NEAR_CELLS {
+        let local_plus_one = hash[from + turn] as usize;
         if local_plus_one == 0 {
-            return Near::Ended(entry_named(latest));
+            return ended(latest, turn + 1); // the empty cell too
         }
         if visible_entries < local_plus_one {
-            return Near::Ended(entry_named(latest));
+            return ended(latest, turn + 1); // the hidden cell too
         }
         if pages[local_plus_one - 1] == page_id {
             latest = local_plus_one;
@@ -136,6 +155,19 @@ fn latest_in_run(
     before
 }
 
+// How many cells a probe looked at that went on at the block's first cell and passed over the cells before this one: this
+// one too, unless it is the home again.
+fn cells_round(home: usize, end: usize) -> usize
+    requires { ⌜ (home < block-cells) × (end ≤ home) ⌝ }
+    ensures { λ r. ⌜ r ≡ min (block-cells - home + end + 1) block-cells ⌝ }
+{
+    let passed = BLOCK_CELLS - home + end;
+    if passed < BLOCK_CELLS {
+        return passed + 1;
+    }
+    passed
+}
+
 // The place of the page's latest entry among the visible ones, many cells at a look: the run of live cells from the home
 // on, which may go on at the block's first cell.
 pub fn find_frame_in_block(
@@ -143,17 +175,25 @@ pub fn find_frame_in_block(
     pages: &[u64],
     page_id: u64,
     visible_entries: usize,
-) -> Probe
+) -> Probed
     requires { ⌜ (length (now hash) ≡ block-cells) × ((«visible_entries» ≤ block-entries) × («visible_entries» ≤ length (now pages))) ⌝ }
-    ensures { λ r. ⌜ r ≡ probe (now (hash .entry)) (now (pages .entry)) «page_id» «visible_entries» ⌝ }
+    ensures { λ r. ⌜ (r .found ≡ probe (now (hash .entry)) (now (pages .entry)) «page_id» «visible_entries») × (r .cells ≡ looked (now (hash .entry)) «page_id» «visible_entries») ⌝ }
 {
     let home = index_hash::hash_page_id(page_id);
     let visible = visible_entries as u16;
     let end = run::live_until(hash, home, BLOCK_CELLS, visible);
     let met = latest_in_run(hash, pages, page_id, home, end, Probe::Nothing);
     if end < BLOCK_CELLS {
-        return met;
+        return Probed {
+            found: met,
+            cells: end - home + 1,
+        };
     }
     let wrapped = run::live_until(hash, 0, home, visible);
-    latest_in_run(hash, pages, page_id, 0, wrapped, met)
+    let found = latest_in_run(hash, pages, page_id, 0, wrapped, met);
+    let cells = cells_round(home, wrapped);
+    Probed {
+        found: found,
+        cells: cells,
+    }
 }

@@ -110,8 +110,8 @@ fn find_answer(state: State, out: &mut [u8], found: FindAnswer) -> State
     requires { ⌜ 26 ≤ length (now out) ⌝ }
 {
     match found {
-        FindAnswer::Frame(frame) => accepted(state, out, b'F', frame),
-        FindAnswer::NoFrame => output::answer(state, out, b'F', 0, Answer::Blank),
+        FindAnswer::Frame(frame, _) => accepted(state, out, b'F', frame),
+        FindAnswer::NoFrame(_) => output::answer(state, out, b'F', 0, Answer::Blank),
         FindAnswer::Refused(number) => refused(state, out, b'F', number),
     }
 }

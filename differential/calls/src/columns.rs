@@ -47,7 +47,7 @@ pub fn call(line: &[u8]) -> Option<Call> {
     Some(match (letter, &numbers[..]) {
         (b'R', &[page, frame]) => Call::RecordFrame { page, frame, grow: false },
         (b'B', &[bound]) => Call::RollbackFrames { bound },
-        (b'F', &[page, min, max]) => Call::FindFrame { page, min, max, watermark: None },
+        (b'F', &[page, min, max]) => Call::FindFrame { page, min, max, watermark: None, cells: false },
         (b'L', &[min, max]) => Call::IterLatestFrames { min, max, room: ROOM },
         _ => return None,
     })
@@ -127,7 +127,7 @@ mod tests {
             Some(Call::RecordFrame { page: 999_999_999_999, frame: 2, grow: false })
         );
         assert_eq!(call(b"B           0"), Some(Call::RollbackFrames { bound: 0 }));
-        let find = Call::FindFrame { page: 7, min: 1, max: 2, watermark: None };
+        let find = Call::FindFrame { page: 7, min: 1, max: 2, watermark: None, cells: false };
         assert_eq!(call(b"F           7           1           2"), Some(find));
         assert_eq!(call(b"L           1           9"), Some(Call::IterLatestFrames { min: 1, max: 9, room: 4096 }));
         assert_eq!(call(line('L', &[1, 9]).as_bytes()), call(b"L           1           9"));

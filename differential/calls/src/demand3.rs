@@ -110,7 +110,7 @@ impl Hold {
         let exactly = |owed: Answer| if *answer == owed { Ok(()) } else { Err(owed.to_string()) };
         let at_most = |good| if good { Ok(()) } else { Err(format!("at most {}", self.mark)) };
         match *call {
-            Call::FindFrame { page, min, max, watermark: None } if max <= self.mark => {
+            Call::FindFrame { page, min, max, watermark: None, .. } if max <= self.mark => {
                 Some(exactly(self.greatest(page, min, max).map_or(Answer::Nothing, Answer::Frame)))
             }
             Call::IterLatestFrames { min, max, .. } if max <= self.mark => {

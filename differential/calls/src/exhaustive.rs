@@ -93,7 +93,7 @@ fn record(page: u64, frame: u64, grow: bool) -> Line {
 
 /// The calls that sequences are made of, around the last frame of the opening.
 fn calls(last: u64) -> Vec<Line> {
-    let find = |page, min, max, watermark| line(Call::FindFrame { page, min, max, watermark });
+    let find = |page, min, max, watermark| line(Call::FindFrame { page, min, max, watermark, cells: false });
     let rollback = |bound| line(Call::RollbackFrames { bound });
     let list = |min, max| line(Call::IterLatestFrames { min, max, room: 70_000 });
     vec![
@@ -135,7 +135,15 @@ fn openings() -> Vec<Opening> {
         crowded(),
         Opening { shorter: 2, ..filled("before the end of the last of 16 blocks", 65_536, 16, 0, 65_534) },
         Opening { shorter: 2, ..filled("65,536 entries in 16 blocks", 65_536, 16, 0, 65_536) },
+        no_empty_cell(Opening { shorter: 2, ..filled("16 blocks without an empty hash cell", 65_536, 16, 0, 65_535) }),
     ]
+}
+
+/// Every hash cell of 16 blocks names its block's first entry: a lookup looks at each of 131,072 cells.
+fn no_empty_cell(mut opening: Opening) -> Opening {
+    let cells = 0..16 * BLOCK_HASH_CELLS as u64;
+    opening.lines.extend(cells.map(|index| Line::Poke { cell: SharedCell::Hash, index, value: 1 }));
+    opening
 }
 
 /// One entry, and a hash without empty cells but for two at the table's end.

@@ -7,12 +7,13 @@ use std::str::FromStr;
 /// The lock answers of a call, one byte a slot.
 pub type Card = Vec<u8>;
 
-/// One call with its arguments, by its name in the Rust.
+/// One call with its arguments, by its name in the Rust. With `cells` a lookup's answer tells the hash cells that it
+/// looked at.
 #[derive(Clone, Debug, PartialEq, Eq)]
 pub enum Call {
     RecordFrame { page: u64, frame: u64, grow: bool },
     RollbackFrames { bound: u64 },
-    FindFrame { page: u64, min: u64, max: u64, watermark: Option<u64> },
+    FindFrame { page: u64, min: u64, max: u64, watermark: Option<u64>, cells: bool },
     IterLatestFrames { min: u64, max: u64, room: u64 },
     RegisterReader { owner: u64, mark: u64, card: Card },
     RegisterReaderForSnapshot { owner: u64, mark: u64, card: Card },
@@ -43,6 +44,11 @@ pub enum Answer {
     Kept(u32),
     Frame(u64),
     Nothing,
+    /// The frame of a lookup, and how many hash cells it looked at.
+    Looked {
+        frame: Option<u64>,
+        cells: u32,
+    },
     List(Vec<(u64, u64)>),
     Slot {
         slot: u32,
@@ -322,6 +328,11 @@ impl Call {
         )
     }
 
+    /// Whether the answer tells the hash cells that were looked at.
+    pub fn tells_cells(&self) -> bool {
+        matches!(self, Self::FindFrame { cells: true, .. })
+    }
+
     /// Slots, shared marks, floor and copy-back limit.
     pub fn is_on_readers(&self) -> bool {
         matches!(
@@ -342,11 +353,12 @@ impl Call {
         Some(match word {
             "record" => Self::RecordFrame { page: w.number()?, frame: w.number()?, grow: w.zero_or_one()? },
             "rollback" => Self::RollbackFrames { bound: w.number()? },
-            "find" => Self::FindFrame {
+            "find" | "looked" => Self::FindFrame {
                 page: w.number()?,
                 min: w.number()?,
                 max: w.number()?,
                 watermark: w.number_or_dash()?,
+                cells: word == "looked",
             },
             "list" => Self::IterLatestFrames { min: w.number()?, max: w.number()?, room: w.number()? },
             "reg" => Self::RegisterReader { owner: w.number()?, mark: w.number()?, card: w.card()? },
@@ -382,8 +394,9 @@ impl Call {
         match self {
             Self::RecordFrame { page, frame, grow } => write!(f, "record {p} {page} {frame} {}", u8::from(*grow)),
             Self::RollbackFrames { bound } => write!(f, "rollback {p} {bound}"),
-            Self::FindFrame { page, min, max, watermark } => {
-                write!(f, "find {p} {page} {min} {max} {}", dash_or(watermark))
+            Self::FindFrame { page, min, max, watermark, cells } => {
+                let word = if *cells { "looked" } else { "find" };
+                write!(f, "{word} {p} {page} {min} {max} {}", dash_or(watermark))
             }
             Self::IterLatestFrames { min, max, room } => write!(f, "list {p} {min} {max} {room}"),
             Self::RegisterReader { owner, mark, card } => write!(f, "reg {p} {owner} {mark} {}", row(card)),
@@ -465,6 +478,16 @@ impl fmt::Display for Line {
     }
 }
 
+impl Answer {
+    /// Of a lookup the frame without the cells; any other answer as it is.
+    pub fn frame_alone(&self) -> Self {
+        match self {
+            Self::Looked { frame, .. } => frame.map_or(Self::Nothing, Self::Frame),
+            other => other.clone(),
+        }
+    }
+}
+
 impl fmt::Display for Answer {
     fn fmt(&self, f: &mut fmt::Formatter) -> fmt::Result {
         match self {
@@ -473,6 +496,7 @@ impl fmt::Display for Answer {
             Self::Kept(len) => write!(f, "kept {len}"),
             Self::Frame(frame) => write!(f, "frame {frame}"),
             Self::Nothing => f.write_str("none"),
+            Self::Looked { cells, .. } => write!(f, "{} cells {cells}", self.frame_alone()),
             Self::List(pairs) => {
                 write!(f, "list {}", pairs.len())?;
                 pairs.iter().try_for_each(|(page, frame)| write!(f, " {page}:{frame}"))
@@ -498,6 +522,7 @@ mod tests {
     #[test]
     fn known_lines_are_written_as_read() {
         let script = "new 4096 1 1 65 F 2\nrecord 0 7 1 0\nrollback 1 18446744073709551615\nfind 0 7 1 2 -\nfind 0 7 1 2 9\n\
+                      looked 0 7 1 2 -\nlooked 1 7 1 2 18446744073709551615\n\
                       list 0 1 9 10\nreg 0 5 3 0129\nregs 0 5 3 -\nregdb 0 5 01\nupd 0 4294967295 5 3\nrel 0 1 5\nrels 0 3 1 5\nfloor 0 1\ndbreader 1 2\n\
                       limit 0 -\nacqw 0 5 255\nacqc 1 5 0\nrelw 0 5\nrelc 0 5\ncommit 0 9 4294967295 0 1\nbackfill 0 3\n\
                       seq 0\nepoch 1\nowner 0 1 2\nparts 0 4294967298\npoke hash 8191 65535\npoke maxframe 0 5\npoke cowner 0 1\nown 0 lowner 3 4\n\
@@ -532,6 +557,8 @@ mod tests {
             "upd 0 4294967296 1 1",
             "record 0 1 1 2",
             "find 0 1 1 1",
+            "looked 0 1 1 1",
+            "looked 0 1 1 1 - 1",
             "floor 0 1a",
             "floor 0 ",
             "poke len 1 0",

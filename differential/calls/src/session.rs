@@ -1,6 +1,7 @@
 //! One script on the port, on the Rust, or on both with every cell compared after each call.
 
 use crate::demand3::Demand3;
+use crate::looked::looked;
 use crate::memory::{
     copy, differing_cells, Differing, Memory, Own, OwnCell, Record, Settings, SharedCell, Slots, View, BLOCK_ENTRIES,
     BLOCK_HASH_CELLS,
@@ -143,6 +144,12 @@ impl<'a> Session<'a> {
         self.world.as_ref().map(|w| &w.settings)
     }
 
+    /// What a call of process 0 on the port would be given; `None` before the first `new`.
+    pub fn given(&mut self) -> Option<Given<'_>> {
+        let World { port, settings, lent, .. } = self.world.as_mut()?;
+        Some(Given { memory: port.as_mut()?, process: 0, settings: *settings, lent: *lent })
+    }
+
     /// Copies the port's memory, which the Rust's is like after each call.
     pub fn keep(&self, kept: &mut Memory) {
         let port = self.world.as_ref().and_then(|world| world.port.as_ref());
@@ -196,20 +203,20 @@ impl<'a> Session<'a> {
         let reply = match line {
             Line::Call { process, call } if *process < world.processes() => {
                 let reply = world.call(self.sides.port, *process, call, line, self.cells)?;
-                if let Reply::Answer(answer) = &reply {
-                    let went = world.through_process(self.sides.process, *process, call, answer, line, self.cells)?;
-                    self.through_process += u64::from(went);
-                    self.calls += 1;
-                    self.on_index += u64::from(call.is_on_index());
-                    self.on_readers += u64::from(call.is_on_readers());
-                    self.refused += u64::from(matches!(answer, Answer::Refused(_)));
-                    let seen = self.demand3.see(*process, call, answer, world.view().slots());
-                    seen.map_err(|owed| {
-                        let answers = [("answer", answer.to_string()), ("demand 3", owed)];
-                        Box::new(Difference { line: line.clone(), answers, cells: vec![] })
-                    })?;
-                }
-                return Ok(reply);
+                let Reply::Answer(answer) = reply else { return Ok(reply) };
+                let went = world.through_process(self.sides.process, *process, call, &answer, line, self.cells)?;
+                self.through_process += u64::from(went);
+                self.calls += 1;
+                self.on_index += u64::from(call.is_on_index());
+                self.on_readers += u64::from(call.is_on_readers());
+                self.refused += u64::from(matches!(answer, Answer::Refused(_)));
+                let frame_alone = answer.frame_alone();
+                let seen = self.demand3.see(*process, call, &frame_alone, world.view().slots());
+                seen.map_err(|owed| {
+                    let answers = [("answer", answer.to_string()), ("demand 3", owed)];
+                    Box::new(Difference { line: line.clone(), answers, cells: vec![] })
+                })?;
+                return Ok(Reply::Answer(if call.tells_cells() { answer } else { frame_alone }));
             }
             Line::Dump { process } if *process < world.processes() => return world.dump(*process, line),
             Line::Settings(settings) => {
@@ -289,7 +296,10 @@ impl World {
         };
         let rust_answer = match refused {
             Some(refused) => refused_by_rust(&mut **rust, process, call, &self.settings, refused),
-            None => rust.call(process, call).map_err(|Panicked(why)| format!("panicked: {why}")),
+            None => {
+                let answer = rust.call(process, call).map_err(|Panicked(why)| format!("panicked: {why}"));
+                answer.and_then(|answer| counted(&**rust, call, answer))
+            }
         };
         let agree = match (&self.port, &port_answer) {
             (Some(memory), Some(answer)) => {
@@ -411,6 +421,17 @@ impl World {
             rust.poke_registry(process, index as usize, record);
         }
         true
+    }
+}
+
+/// The Rust's answer, of a lookup with the cells that the second reading counts. That one must find the Rust's frame.
+fn counted(rust: &dyn Rust, call: &Call, answer: Answer) -> Result<Answer, String> {
+    let Call::FindFrame { page, min, max, watermark, .. } = *call else { return Ok(answer) };
+    let read = looked(rust, page, min, max, watermark);
+    if read.frame_alone() == answer {
+        Ok(read)
+    } else {
+        Err(format!("{answer}; by the second reading {read}"))
     }
 }
 

@@ -145,7 +145,7 @@ pub trait Port {
         match *call {
             Call::RecordFrame { page, frame, grow } => self.record_frame(g, page, frame, grow),
             Call::RollbackFrames { bound } => self.rollback_frames(g, bound),
-            Call::FindFrame { page, min, max, watermark } => self.find_frame(g, page, min, max, watermark),
+            Call::FindFrame { page, min, max, watermark, .. } => self.find_frame(g, page, min, max, watermark),
             Call::IterLatestFrames { min, max, room } => self.iter_latest_frames(g, min, max, room),
             Call::RegisterReader { owner, mark, ref card } => self.register_reader(g, owner, mark, card),
             Call::RegisterReaderForSnapshot { owner, mark, ref card } => {

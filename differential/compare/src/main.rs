@@ -1,6 +1,8 @@
 //! `./compare`: call scripts on the port and on the Rust.
 #![forbid(unsafe_code)]
 
+#[cfg(feature = "port")]
+mod cells;
 mod program;
 
 use calls::columns;
@@ -19,6 +21,8 @@ use std::process::ExitCode;
 const USAGE: &str = "usage: compare FILE                      each call on both sides, every cell compared
        compare --port FILE               the port's answers
        compare --rust FILE               the Rust's answers
+       compare --cells FILE              the script on the port: how many hash cells lookups look at, on the index that
+                                         it leaves
        compare --random SEED SEQUENCES [FAMILY..]   scripts of the tool's own making, on both sides
                                          FAMILY: header, index, readers, shared or holds; none: all that the port has
        compare --process SEED SEQUENCES [FAMILY..]   the same on the port alone: do the Rust crate's Process and the C
@@ -46,8 +50,9 @@ const RUST: Option<MakeRust> = None;
 
 const DEMAND3: &str = "--demand3";
 const PROCESS: &str = "--process";
+const CELLS: &str = "--cells";
 /// What works without the Rust source.
-const WITHOUT_RUST: [&str; 5] = ["--port", PROCESS, DEMAND3, "--cases", "--input"];
+const WITHOUT_RUST: [&str; 6] = ["--port", CELLS, PROCESS, DEMAND3, "--cases", "--input"];
 
 type Run = fn(Sides, &[&str]) -> ExitCode;
 
@@ -60,6 +65,8 @@ fn main() -> ExitCode {
     let (run, sides): (Run, Sides) = match words[..] {
         ["--port", _] => (script, Sides { rust: None, ..all }),
         ["--rust", _] => (script, Sides { port: None, ..both }),
+        #[cfg(feature = "port")]
+        [CELLS, _] => (cells::print, Sides { rust: None, ..both }),
         ["--random", _, _, ..] => (random_scripts, all),
         [PROCESS, _, _, ..] => (random_scripts, Sides { rust: None, ..all }),
         [DEMAND3, _, _] => (holds, Sides { rust: None, ..both }),
@@ -90,11 +97,15 @@ fn nothing(what: &str) -> ExitCode {
     fault(&format!("nothing was compared: {what}"))
 }
 
+/// The text of a call script.
+fn read(file: &str) -> Result<String, ExitCode> {
+    std::fs::read_to_string(file).map_err(|error| fault(&format!("{file}: {error}")))
+}
+
 fn script(sides: Sides, words: &[&str]) -> ExitCode {
-    let file = words[words.len() - 1];
-    let text = match std::fs::read_to_string(file) {
+    let text = match read(words[words.len() - 1]) {
         Ok(text) => text,
-        Err(error) => return fault(&format!("{file}: {error}")),
+        Err(status) => return status,
     };
     let mut out = BufWriter::new(std::io::stdout());
     let mut session = Session::new(sides);

@@ -146,7 +146,7 @@ impl World {
                 rust.rollback_frames(bound);
                 Answer::Kept(rust.header().frame_index_len)
             }
-            Call::FindFrame { page, min, max, watermark } => {
+            Call::FindFrame { page, min, max, watermark, .. } => {
                 frame_or_nothing(rust.find_frame(page, min, max, watermark))
             }
             Call::IterLatestFrames { min, max, .. } => Answer::List(rust.iter_latest_frames(min, max)),

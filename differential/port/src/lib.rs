@@ -10,7 +10,7 @@ use calls::sides::{Given, Parts, Port};
 use readers::Lent;
 use wal_coordination_sys as sys;
 
-pub use process::ThroughProcess;
+pub use process::{probe_lengths, ThroughProcess};
 
 /// The answer that a reply gives, if the interface allows it.
 fn answer(refusal: u32, answer: u32, accepted: impl FnOnce(u32) -> Option<Answer>) -> Answer {
@@ -65,13 +65,11 @@ impl Port for Library {
 
     fn find_frame(&self, g: Given, page: u64, min: u64, max: u64, watermark: Option<u64>) -> Option<Answer> {
         let reply = sys::find_frame(index(g).to_read(), page, min, max, watermark);
-        let frame = match (reply.found, reply.frame) {
-            (0, 0) | (1, _) => reply.frame,
-            _ => return Some(Answer::Odd(format!("found {} and frame {}", reply.found, reply.frame))),
-        };
-        Some(answer(reply.refusal, reply.found, |found| match found {
-            1 => Some(Answer::Frame(frame)),
-            _ => Some(Answer::Nothing),
+        let sys::FindReply { refusal, found, cells, frame } = reply;
+        Some(readers::answer(refusal, &[found.into(), cells.into(), frame], || match (found, frame) {
+            (0, 0) => Some(Answer::Looked { frame: None, cells }),
+            (1, _) => Some(Answer::Looked { frame: Some(frame), cells }),
+            _ => None,
         }))
     }
 

@@ -5,8 +5,8 @@ use calls::memory::{Own, Settings, LINUX_OFD, PROCESS_SCOPED_FCNTL};
 use calls::script::{Answer, Call, Part};
 use calls::sides::{Given, Parts, Port};
 use wal_coordination::{
-    ByteLocks, LockAnswer, LockByte, Memory, OwnCells, Process, Recorded, Refusal, SharedOwnerRecord, SharedReaderSlot,
-    SharedWalOwnershipMode, Slot,
+    ByteLocks, LockAnswer, LockByte, Lookup, Memory, OneProcess, OwnCells, ProbeLengths, Process, Recorded, Refusal,
+    SharedOwnerRecord, SharedReaderSlot, SharedWalOwnershipMode, Slot,
 };
 
 /// Each call by a `Process` that is given the own cells as they stand. `None`: its types do not allow the call.
@@ -45,6 +45,12 @@ impl Port for ThroughProcess {
     }
 }
 
+/// How many hash cells lookups look at, on the index as it stands.
+pub fn probe_lengths(g: Given) -> Result<ProbeLengths, Refusal> {
+    let settings = settings(&g.settings).ok_or(Refusal::Settings)?;
+    Process::new(settings, OneProcess)?.probe_lengths(&memory(g))
+}
+
 /// The settings, if they have a mode.
 fn settings(given: &Settings) -> Option<wal_coordination::Settings> {
     let mode = match given.mode {
@@ -73,10 +79,15 @@ fn take_out(cells: &OwnCells, own: &mut Own, slots: usize) {
     (own.local_writer, own.local_checkpoint) = (*local_writer, *local_checkpoint);
 }
 
+/// The shared memory, lent as the script has it.
+fn memory(g: Given) -> Memory {
+    let Parts { header, pages, frames, hash, bitmap, slot_frames, slot_owners, .. } = g.parts();
+    Memory { header, pages, frames, hash, bitmap, reader_frames: slot_frames, reader_owners: slot_owners }
+}
+
 /// Makes the call.
 fn made(p: &mut Process<&mut CardLocks>, g: Given, call: &Call) -> Answer {
-    let Parts { header, pages, frames, hash, bitmap, slot_frames, slot_owners, .. } = g.parts();
-    let m = &mut Memory { header, pages, frames, hash, bitmap, reader_frames: slot_frames, reader_owners: slot_owners };
+    let m = &mut memory(g);
     let owned = SharedOwnerRecord::from_raw;
     let reader = |slot: u32, owner, mark| SharedReaderSlot::new(Slot::new(slot as usize), owned(owner), mark);
     match *call {
@@ -87,7 +98,7 @@ fn made(p: &mut Process<&mut CardLocks>, g: Given, call: &Call) -> Answer {
             })
         }
         Call::RollbackFrames { bound } => told(p.rollback_frames(m, bound), Answer::Kept),
-        Call::FindFrame { page, min, max, watermark } => told(p.find_frame(m, page, min, max, watermark), frame),
+        Call::FindFrame { page, min, max, watermark, .. } => lookup(p, m, page, (min, max), watermark),
         Call::IterLatestFrames { min, max, room } => list(p, m, (min, max), room),
         Call::RegisterReader { owner, mark, .. } => told(p.register_reader(m, owned(owner), mark), slot),
         Call::RegisterReaderForSnapshot { owner, mark, .. } => {
@@ -144,6 +155,22 @@ fn slot(reader: Option<SharedReaderSlot>) -> Answer {
         owner: reader.owner.raw(),
         mark: reader.max_frame,
     })
+}
+
+/// With the cells looked at, and without: the two agree on the frame.
+fn lookup(
+    p: &Process<&mut CardLocks>,
+    m: &Memory,
+    page: u64,
+    (min, max): (u64, u64),
+    watermark: Option<u64>,
+) -> Answer {
+    let counted = p.find_frame_counted(m, page, min, max, watermark);
+    let alone = p.find_frame(m, page, min, max, watermark);
+    if counted.map(|lookup| lookup.frame) != alone {
+        return Answer::Odd(format!("{counted:?} with the cells looked at, {alone:?} without"));
+    }
+    told(counted, |Lookup { frame, cells, .. }| Answer::Looked { frame, cells })
 }
 
 /// Into cells, and as a vector: the two agree, but that the cells can be too few.

@@ -67,7 +67,7 @@ impl<'a> Lent<'a> {
 }
 
 /// The answer of a reply: refused, which tells nothing else; else what is told, if the interface allows it.
-fn answer(refusal: u32, told: &[u64], accepted: impl FnOnce() -> Option<Answer>) -> Answer {
+pub(crate) fn answer(refusal: u32, told: &[u64], accepted: impl FnOnce() -> Option<Answer>) -> Answer {
     let known = match refusal {
         0 => accepted(),
         _ => told.iter().all(|&number| number == 0).then_some(Answer::Refused(refusal)),

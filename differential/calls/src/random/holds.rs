@@ -92,7 +92,7 @@ impl Maker<'_> {
             },
             21..=31 => {
                 let (min, max) = self.held_bounds(&marks, last);
-                Call::FindFrame { page: self.held_page(), min, max, watermark: None }
+                Call::FindFrame { page: self.held_page(), min, max, watermark: None, cells: false }
             }
             32..=34 => {
                 let (min, max) = self.held_bounds(&marks, last);

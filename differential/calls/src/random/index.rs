@@ -62,13 +62,15 @@ impl Maker<'_> {
     pub(super) fn crowding(&mut self, lines: &mut Vec<Line>) {
         let cells = BLOCK_HASH_CELLS as u64;
         let named = self.dice.between(1, 3);
+        let damaged = self.dice.one_in(2);
         let empty: Vec<u64> = (0..self.dice.below(3)).map(|_| self.dice.below(cells)).collect();
         for frame in 2..=named + 1 {
             let page = self.page();
             lines.push(Line::Call { process: 0, call: Call::RecordFrame { page, frame, grow: true } });
         }
         for index in (0..cells).filter(|cell| !empty.contains(cell)) {
-            let value = if self.dice.one_in(2000) { self.dice.below(9) } else { self.dice.between(1, named) };
+            let other = damaged && self.dice.one_in(2000);
+            let value = if other { self.dice.below(9) } else { self.dice.between(1, named) };
             lines.push(Line::Poke { cell: SharedCell::Hash, index, value });
         }
     }
@@ -195,13 +197,14 @@ impl Maker<'_> {
                     min,
                     max: self.dice.of(&[min, min.wrapping_add(1), u64::MAX, u64::MAX]),
                     watermark: None,
+                    cells: false,
                 }
             }
             9..=12 => {
                 let watermark = self.dice.one_in(3).then(|| self.likely_frame(view));
                 let min = if self.dice.one_in(2) { self.dice.below(3) } else { self.likely_frame(view) };
                 let max = if self.dice.one_in(4) { u64::MAX } else { self.likely_frame(view) };
-                Call::FindFrame { page: self.likely_page(view), min, max, watermark }
+                Call::FindFrame { page: self.likely_page(view), min, max, watermark, cells: false }
             }
             13 if self.visible_len(view) > 0 => {
                 let entry = self.entry(self.visible_len(view));

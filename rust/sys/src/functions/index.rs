@@ -65,6 +65,8 @@ pub struct FindReply {
     pub found: u32,
     /// The frame, else 0.
     pub frame: u64,
+    /// How many hash cells were looked at, 0 if it was refused.
+    pub cells: u32,
 }
 
 /// The answer of a list.
@@ -78,7 +80,7 @@ pub struct ListReply {
 }
 
 layout! { IndexReply has 8 bytes aligned to 4: refusal at 0, answer at 4 }
-layout! { FindReply has 16 bytes aligned to 8: refusal at 0, found at 4, frame at 8 }
+layout! { FindReply has 24 bytes aligned to 8: refusal at 0, found at 4, frame at 8, cells at 16 }
 layout! { ListReply has 16 bytes aligned to 8: refusal at 0, count at 8 }
 
 extern "C" {

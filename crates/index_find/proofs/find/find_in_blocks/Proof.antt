@@ -1,109 +1,59 @@
-use mathlib.Core.Path.{_≡_, refl, subst, _∙_}
-use Prim.Native.Nat.{_≤_}
-use Rattle.index_search.specs.InnerRun.{Answers}
-use Rattle.index_find.specs.Find.{find-in, blocks-for}
-use Rattle.index_find.proofs.Blockwise.{found-in-block, looked-in-block, block-found, block-passed, block-back, blocks-done}
+use mathlib.Core.Path.{subst, _∙_}
+use Rattle.index_find.specs.Find.{blocks-for}
+use Rattle.index_find.specs.InnerFound.{NearTold}
+use Rattle.index_find.proofs.Blockwise.{cells-most}
 use native.Mathlib.Omega.{arith}
 use borrow.Author.Needs.{needs}
 use Rattle.index_find.proofs.find.find_in_blocks.Statement.{statement}
 use Rattle.index_find.proofs.find.find_in_blocks.Tie as tie
 
-abbrev Inv-loop : tie.InvT-loop
-Inv-loop pages frames hash page-id visible-slots min-frame max-frame from k₀ k =
-    (k ≤ blocks-for visible-slots) × (find-in k visible-slots pages frames hash page-id min-frame max-frame ≡ find-in (blocks-for visible-slots) visible-slots pages frames hash page-id min-frame max-frame)
+find-near-requires : tie.Need-find-near-requires
+find-near-requires c κs = search needs
 
-abbrev μ-loop : tie.MeasureT-loop
-μ-loop pages frames hash page-id visible-slots min-frame max-frame from k₀ k = k
-
-hash-page-id-requires : tie.Need-hash-page-id-requires Inv-loop μ-loop
-hash-page-id-requires c κs = search needs
-
-add-k : tie.Need-add-k Inv-loop μ-loop
-add-k c = omega arith
-
-is-home-late-requires : tie.Need-is-home-late-requires Inv-loop μ-loop
-is-home-late-requires c κs = search needs
-
-find-along-runs-requires : tie.Need-find-along-runs-requires Inv-loop μ-loop
-find-along-runs-requires c κs = (c .before .before .before .before .before .before .pre, omega arith)
-
-returns : tie.Need-returns Inv-loop μ-loop
-returns c = c .find-along-runs .ensures
-
-loop-holds : tie.Need-loop-holds Inv-loop μ-loop
-loop-holds c = (omega arith, refl)
-
-sub-k : tie.Need-sub-k Inv-loop μ-loop
-sub-k c = omega arith
-
-probe-near-in-block-requires : tie.Need-probe-near-in-block-requires Inv-loop μ-loop
-probe-near-in-block-requires c κs =
-    let r = c .before .before .before .before .before .before .before .before .pre in
-    (((omega arith, omega arith), omega arith), (c .before .before .before .before .hash-page-id .ensures .0, c .before .before .before .is-home-late .ensures (c .before .before .if1 .left)))
-
-enum-known-near : tie.Need-enum-known-near Inv-loop μ-loop
+enum-known-near : tie.Need-enum-known-near
 enum-known-near c = search needs
 
-enum-told : tie.Need-enum-told Inv-loop μ-loop
-enum-told c = search needs
+enum-known-near-2 : tie.Need-enum-known-near-2
+enum-known-near-2 c = search needs
 
-add-find-along-runs : tie.Need-add-find-along-runs Inv-loop μ-loop
-add-find-along-runs c = omega arith
+enum-known-near-3 : tie.Need-enum-known-near-3
+enum-known-near-3 c = search needs
 
-find-along-runs-requires-2 : tie.Need-find-along-runs-requires-2 Inv-loop μ-loop
-find-along-runs-requires-2 c κs = (c .before .before .before .before .before .before .before .before .before .before .before .pre, omega arith)
+find-along-runs-requires : tie.Need-find-along-runs-requires
+find-along-runs-requires c κs =
+    let told = subst (NearTold _ _ _) (c .before .near3 .given .1) (c .before .before .before .find-near .ensures) in
+    (c .before .before .before .before .before .before .before .pre, told .0)
 
-returns-2 : tie.Need-returns-2 Inv-loop μ-loop
-returns-2 c = c .find-along-runs2 .ensures ∙ block-back _ _ _ _ _ _ _ _ (c .before .before .before .before .loop-test .taken) ∙ c .before .before .before .before .before .loop .inv .1
+add-t19 : tie.Need-add-t19
+add-t19 c =
+    let a = c .before .before .before .before .before .before .before .before .before .args in
+    let r = c .before .before .before .before .before .before .before .before .before .pre in
+    let told = subst (NearTold _ _ _) (c .before .before .before .near3 .given .1) (c .before .before .before .before .before .find-near .ensures) in
+    let most = cells-most (a .visible-slots) (a .pages .now) (a .frames .now) (a .hash .now) (a .page-id) (a .min-frame) (a .max-frame) (blocks-for (a .visible-slots)) in
+    omega (arith, most, told .1 .1, c .before .find-along-runs .ensures .1)
 
-frame-found-requires : tie.Need-frame-found-requires Inv-loop μ-loop
-frame-found-requires c κs =
-    let r = c .before .before .before .before .before .before .before .before .before .before .before .before .pre in
-    ((omega arith, omega arith), found-in-block _ _ _ _ _ _ (subst (Answers _) (c .before .near .given .1) (c .before .before .before .probe-near-in-block .ensures)))
+returns : tie.Need-returns
+returns c = subst (NearTold _ _ _) (c .before .near .given .1) (c .before .before .before .find-near .ensures)
 
-enum-known-found : tie.Need-enum-known-found Inv-loop μ-loop
-enum-known-found c = search needs
+returns-2 : tie.Need-returns-2
+returns-2 c = subst (NearTold _ _ _) (c .before .near2 .given .1) (c .before .before .before .find-near .ensures)
 
-returns-3 : tie.Need-returns-3 Inv-loop μ-loop
-returns-3 c = block-found _ _ _ _ _ _ _ _ _ _ (c .before .before .before .before .before .before .before .before .loop-test .taken) (looked-in-block _ _ _ _ _ _ _ _ _ _ (c .before .before .before .frame-found .ensures) (subst (Answers _) (c .before .before .before .before .before .near .given .1) (c .before .before .before .before .before .before .before .probe-near-in-block .ensures))) (c .before .found .given .1) ∙ c .before .before .before .before .before .before .before .before .before .loop .inv .1
-
-enum-told-2 : tie.Need-enum-told-2 Inv-loop μ-loop
-enum-told-2 c = search needs
-
-loop-less : tie.Need-loop-less Inv-loop μ-loop
-loop-less c = omega arith
-
-loop-again : tie.Need-loop-again Inv-loop μ-loop
-loop-again c =
-    let i = c .before .before .before .before .before .before .before .before .loop .inv in
-    (omega arith, block-passed _ _ _ _ _ _ _ _ _ (c .before .before .before .before .before .before .before .loop-test .taken) (looked-in-block _ _ _ _ _ _ _ _ _ _ (c .before .before .frame-found .ensures) (subst (Answers _) (c .before .before .before .before .near .given .1) (c .before .before .before .before .before .before .probe-near-in-block .ensures))) (c .enum-told2 .given .1) ∙ i .1)
-
-returns-4 : tie.Need-returns-4 Inv-loop μ-loop
-returns-4 c = blocks-done _ _ _ _ _ _ _ _ (c .loop-test .left) ∙ c .before .loop .inv .1
+returns-3 : tie.Need-returns-3
+returns-3 c =
+    let told = subst (NearTold _ _ _) (c .before .before .before .near3 .given .1) (c .before .before .before .before .before .find-near .ensures) in
+    let rest = c .before .find-along-runs .ensures in
+    (rest .0 ∙ told .1 .0, omega (arith, told .1 .1, rest .1))
 
 pub find-in-blocks-spec : {M : Type 1} → statement M
 find-in-blocks-spec =
     tie.close
     (tie.spec
-    Inv-loop
-    μ-loop
-    hash-page-id-requires
-    add-k
-    is-home-late-requires
-    find-along-runs-requires
-    returns
-    loop-holds
-    sub-k
-    probe-near-in-block-requires
+    find-near-requires
     enum-known-near
-    enum-told
-    add-find-along-runs
-    find-along-runs-requires-2
+    enum-known-near-2
+    enum-known-near-3
+    find-along-runs-requires
+    add-t19
+    returns
     returns-2
-    frame-found-requires
-    enum-known-found
-    returns-3
-    enum-told-2
-    loop-less
-    loop-again
-    returns-4)
+    returns-3)
