@@ -191,7 +191,8 @@ struct index_given {
 static const struct index_given TWO_BLOCKS = {4097, 2, 2 * WAL_BLOCK_ENTRIES, 2 * WAL_BLOCK_ENTRIES,
                                               2 * WAL_BLOCK_HASH_CELLS};
 
-#define INDEX_OF(g) w.pages, (g).pages, w.frames, (g).frames, w.hash, (g).hash
+#define ENTRIES_OF(g) w.pages, (g).pages, w.frames, (g).frames
+#define INDEX_OF(g) ENTRIES_OF(g), w.hash, (g).hash
 
 static struct wal_index_reply record(struct index_given g, uint64_t page, uint64_t frame, uint32_t grow) {
     return wal_record_frame(g.capacity, g.max_blocks, &w.header, INDEX_OF(g), page, frame, grow);
@@ -204,6 +205,14 @@ static struct wal_index_reply rollback(struct index_given g, uint64_t max_frame)
 static struct wal_find_reply find(struct index_given g, uint64_t page, uint64_t min, uint64_t max, uint32_t has,
                                   uint64_t watermark) {
     return wal_find_frame(g.capacity, g.max_blocks, w.header, INDEX_OF(g), page, min, max, has, watermark);
+}
+
+static struct wal_frame_reply between(struct index_given g, uint64_t page, uint64_t min, uint64_t max) {
+    return wal_frame_between(g.capacity, g.max_blocks, w.header, ENTRIES_OF(g), page, min, max);
+}
+
+static struct wal_frame_reply nearest(struct index_given g, uint64_t page, uint64_t to_frame) {
+    return wal_nearest_frame(g.capacity, g.max_blocks, w.header, ENTRIES_OF(g), page, to_frame);
 }
 
 static struct wal_list_reply list(struct index_given g, uint64_t min, uint64_t max, size_t pages, size_t frames) {
@@ -229,6 +238,27 @@ static void same_find_reply(int line, struct wal_find_reply r, uint32_t refusal,
 }
 
 #define SAME_FIND(reply, refusal, found, frame, cells) same_find_reply(__LINE__, reply, refusal, found, frame, cells)
+
+static void same_frame_reply(int line, struct wal_frame_reply r, uint32_t refusal, uint32_t found, uint64_t frame) {
+    same(line, "refusal", r.refusal, refusal);
+    same(line, "found", r.found, found);
+    same(line, "frame", r.frame, frame);
+    same_world(line);
+}
+
+#define SAME_FRAME(reply, frame) same_frame_reply(__LINE__, reply, 0, 1, frame)
+#define NO_FRAME(reply) same_frame_reply(__LINE__, reply, 0, 0, 0)
+
+/* Which of several frames is given is not decided: it is one of these. Any other is held against the last of them. */
+static void one_of(int line, struct wal_frame_reply r, size_t count, const uint64_t *frames) {
+    size_t i = 0;
+    while (i < count - 1 && frames[i] != r.frame)
+        i++;
+    same_frame_reply(line, r, 0, 1, frames[i]);
+}
+
+#define ONE_OF(reply, ...)                                                                   \
+    one_of(__LINE__, reply, sizeof(uint64_t[]){__VA_ARGS__} / sizeof(uint64_t), (uint64_t[]){__VA_ARGS__})
 
 static void same_list_reply(int line, struct wal_list_reply r, uint32_t refusal, uint64_t count) {
     same(line, "refusal", r.refusal, refusal);
@@ -423,9 +453,112 @@ static void cells_looked_at(void) {
     SAME_FIND(find(TWO_BLOCKS, 8, 1, 9999, 0, 0), 0, 0, 0, 1 + 8192);
 }
 
-/* The four calls on the index with these settings and lengths: all are refused so, or none is. */
-static void index_refused(int line, struct index_given g, uint32_t refusal) {
+static void frames_between(void) {
+    three_records();
+    /* Both ends are included. */
+    SAME_FRAME(between(TWO_BLOCKS, 7, 1, 1), 1);
+    SAME_FRAME(between(TWO_BLOCKS, 7, 3, 3), 3);
+    SAME_FRAME(between(TWO_BLOCKS, 7, 0, 2), 1);
+    SAME_FRAME(between(TWO_BLOCKS, 7, 2, UINT64_MAX), 3);
+    SAME_FRAME(between(TWO_BLOCKS, 8199, 1, 3), 2);
+    NO_FRAME(between(TWO_BLOCKS, 7, 2, 2));
+    NO_FRAME(between(TWO_BLOCKS, 7, 4, UINT64_MAX));
+    NO_FRAME(between(TWO_BLOCKS, 7, 0, 0));
+    NO_FRAME(between(TWO_BLOCKS, 8, 0, UINT64_MAX));
+    ONE_OF(between(TWO_BLOCKS, 7, 1, 3), 1, 3);
+
+    /* Bounds in the wrong order. */
+    NO_FRAME(between(TWO_BLOCKS, 7, 3, 1));
+    NO_FRAME(between(TWO_BLOCKS, 8199, 3, 2));
+    NO_FRAME(between(TWO_BLOCKS, 7, UINT64_MAX, 0));
+
+    /* What is published does not matter, and what the length leaves out is not looked at: the entry of page 79. */
+    w.header.max_frame = wanted.header.max_frame = 2;
+    SAME_FRAME(between(TWO_BLOCKS, 7, 3, 3), 3);
+    NO_FRAME(between(TWO_BLOCKS, 79, 0, UINT64_MAX));
+    w.header.frame_index_len = wanted.header.frame_index_len = 2;
+    NO_FRAME(between(TWO_BLOCKS, 7, 3, 3));
+    w.header.frame_index_len = wanted.header.frame_index_len = 0;
+    NO_FRAME(between(TWO_BLOCKS, 7, 0, UINT64_MAX));
+
+    /* Damage: frames that do not rise. */
+    three_records();
+    w.frames[0] = wanted.frames[0] = 9;
+    w.frames[2] = wanted.frames[2] = 4;
+    SAME_FRAME(between(TWO_BLOCKS, 7, 9, 9), 9);
+    SAME_FRAME(between(TWO_BLOCKS, 7, 3, 8), 4);
+    NO_FRAME(between(TWO_BLOCKS, 7, 5, 8));
+    ONE_OF(between(TWO_BLOCKS, 7, 4, 9), 4, 9);
+}
+
+static void nearest_frames(void) {
+    three_records();
+    SAME_FRAME(nearest(TWO_BLOCKS, 7, 0), 1);
+    SAME_FRAME(nearest(TWO_BLOCKS, 7, 1), 1);
+    SAME_FRAME(nearest(TWO_BLOCKS, 7, 2), 1); /* 3 is as near */
+    SAME_FRAME(nearest(TWO_BLOCKS, 7, 3), 3);
+    SAME_FRAME(nearest(TWO_BLOCKS, 7, UINT64_MAX), 3);
+    SAME_FRAME(nearest(TWO_BLOCKS, 8199, 1), 2);
+    SAME_FRAME(nearest(TWO_BLOCKS, 8199, 9), 2);
+    NO_FRAME(nearest(TWO_BLOCKS, 8, 2));
+
+    w.header.max_frame = wanted.header.max_frame = 2;
+    SAME_FRAME(nearest(TWO_BLOCKS, 7, 9), 3);
+    NO_FRAME(nearest(TWO_BLOCKS, 79, 80));
+    w.header.frame_index_len = wanted.header.frame_index_len = 2;
+    SAME_FRAME(nearest(TWO_BLOCKS, 7, 9), 1);
+    w.header.frame_index_len = wanted.header.frame_index_len = 0;
+    NO_FRAME(nearest(TWO_BLOCKS, 7, 2));
+
+    /* Damage: frames that do not rise. Of two that are as near the lower one is the later entry. */
+    three_records();
+    w.frames[0] = wanted.frames[0] = 9;
+    w.frames[2] = wanted.frames[2] = 5;
+    SAME_FRAME(nearest(TWO_BLOCKS, 7, 7), 5);
+    SAME_FRAME(nearest(TWO_BLOCKS, 7, 8), 9);
+    SAME_FRAME(nearest(TWO_BLOCKS, 7, 6), 5);
+}
+
+/* Frames and pages that need their 64 bits, and a second block. */
+static void searches_of_wide_numbers(void) {
+    empty_index();
+    RECORDED(7, 0);
+    SAME_FRAME(between(TWO_BLOCKS, 7, 0, 0), 0);
+    SAME_FRAME(nearest(TWO_BLOCKS, 7, UINT64_MAX), 0); /* no distance is greater */
+    RECORDED(7, UINT64_MAX);
+    SAME_FRAME(between(TWO_BLOCKS, 7, 0, UINT64_MAX - 1), 0);
+    SAME_FRAME(between(TWO_BLOCKS, 7, 1, UINT64_MAX), UINT64_MAX);
+    SAME_FRAME(between(TWO_BLOCKS, 7, UINT64_MAX, UINT64_MAX), UINT64_MAX);
+    NO_FRAME(between(TWO_BLOCKS, 7, 1, UINT64_MAX - 1));
+    ONE_OF(between(TWO_BLOCKS, 7, 0, UINT64_MAX), 0, UINT64_MAX);
+    SAME_FRAME(nearest(TWO_BLOCKS, 7, 0), 0);
+    SAME_FRAME(nearest(TWO_BLOCKS, 7, UINT64_MAX), UINT64_MAX);
+    SAME_FRAME(nearest(TWO_BLOCKS, 7, UINT64_MAX / 2), 0);
+    SAME_FRAME(nearest(TWO_BLOCKS, 7, UINT64_MAX / 2 + 1), UINT64_MAX);
+
+    /* Page 7 is the low half of page B(6). */
+    empty_index();
+    RECORDED(B(6), B(10));
+    for (uint64_t frame = 1; frame < WAL_BLOCK_ENTRIES; frame++)
+        recorded(__LINE__, 7, B(10) + frame);
+    RECORDED(B(6), B(20));
+    SAME(w.header.frame_index_len, WAL_BLOCK_ENTRIES + 1);
+    SAME_FRAME(between(TWO_BLOCKS, B(6), B(10), B(20) - 1), B(10));
+    SAME_FRAME(between(TWO_BLOCKS, B(6), B(10) + 1, B(20)), B(20));
+    NO_FRAME(between(TWO_BLOCKS, B(6), B(10) + 1, B(20) - 1));
+    SAME_FRAME(nearest(TWO_BLOCKS, B(6), B(15)), B(10)); /* B(20) is as near */
+    SAME_FRAME(nearest(TWO_BLOCKS, B(6), B(15) + 1), B(20));
+    SAME_FRAME(nearest(TWO_BLOCKS, 7, 0), B(10) + 1);
+    SAME_FRAME(nearest(TWO_BLOCKS, 7, B(10) + 2000), B(10) + 2000);
+    SAME_FRAME(nearest(TWO_BLOCKS, 7, B(20)), B(10) + WAL_BLOCK_ENTRIES - 1);
+}
+
+/* The calls on the index with these settings and lengths. Those that are lent the hash are all refused so, or none is;
+ * the searches over the entries, which are not lent it, may have another answer. */
+static void index_refused(int line, struct index_given g, uint32_t refusal, uint32_t of_entries) {
     wanted = w;
+    same_frame_reply(line, between(g, 7, 2, 3), of_entries, of_entries == 0, of_entries == 0 ? 3 : 0);
+    same_frame_reply(line, nearest(g, 7, 9), of_entries, of_entries == 0, of_entries == 0 ? 3 : 0);
     same_find_reply(line, find(g, 7, 1, 3, 0, 0), refusal, refusal == 0, refusal == 0 ? 3 : 0,
                     refusal == 0 ? 4 : 0);
     struct wal_list_reply listed = list(g, 1, 3, 8, 8);
@@ -442,13 +575,15 @@ static void index_refused(int line, struct index_given g, uint32_t refusal) {
         same(line, "record: refusal", record(g, 9, 4, 0).refusal, 0);
 }
 
-#define INDEX_REFUSED(refusal, ...)                   \
-    do {                                              \
-        three_records();                              \
-        struct index_given g = TWO_BLOCKS;            \
-        __VA_ARGS__;                                  \
-        index_refused(__LINE__, g, refusal);          \
+#define INDEX_AND_ENTRIES_REFUSED(refusal, of_entries, ...)   \
+    do {                                                      \
+        three_records();                                      \
+        struct index_given g = TWO_BLOCKS;                    \
+        __VA_ARGS__;                                          \
+        index_refused(__LINE__, g, refusal, of_entries);      \
     } while (0)
+
+#define INDEX_REFUSED(refusal, ...) INDEX_AND_ENTRIES_REFUSED(refusal, refusal, __VA_ARGS__)
 
 static void index_settings(void) {
     INDEX_REFUSED(0, g.pages += 1, g.frames += 2, g.hash += 3);
@@ -464,7 +599,7 @@ static void index_settings(void) {
     INDEX_REFUSED(WAL_REFUSED_SETTINGS, w.header.frame_index_blocks = 3);
     INDEX_REFUSED(WAL_REFUSED_SHORT_MEMORY, g.pages -= 1);
     INDEX_REFUSED(WAL_REFUSED_SHORT_MEMORY, g.frames -= 1);
-    INDEX_REFUSED(WAL_REFUSED_SHORT_MEMORY, g.hash -= 1);
+    INDEX_AND_ENTRIES_REFUSED(WAL_REFUSED_SHORT_MEMORY, 0, g.hash -= 1);
 }
 
 /* --- Readers ---------------------------------------------------------------------------------------------------- */
@@ -890,6 +1025,9 @@ int main(void) {
     records();
     lookups();
     cells_looked_at();
+    frames_between();
+    nearest_frames();
+    searches_of_wide_numbers();
     index_settings();
     reader_refusals();
     registrations();

@@ -56,6 +56,31 @@ static void find(uint64_t page, uint64_t up_to) {
         printf("find page %" PRIu64 " up to %" PRIu64 ": none\n", page, up_to);
 }
 
+/* Whether a page was written from one frame to another. If it has several frames there, which one the reply has is not
+ * decided: only that there is one is told. */
+static void written(uint64_t page, uint64_t first, uint64_t last) {
+    struct wal_frame_reply r = wal_frame_between(CAPACITY, BLOCKS, header, pages, BLOCKS * WAL_BLOCK_ENTRIES, frames,
+                                                 BLOCKS * WAL_BLOCK_ENTRIES, page, first, last);
+    printf("page %" PRIu64 " written from %" PRIu64 " to %" PRIu64 ": ", page, first, last);
+    if (r.refusal != 0)
+        printf("refused %" PRIu32 "\n", r.refusal);
+    else
+        printf("%s\n", r.found == 1 ? "yes" : "no");
+}
+
+/* A page's nearest frame, the lower of two that are as near. */
+static void nearest(uint64_t page, uint64_t to_frame) {
+    struct wal_frame_reply r = wal_nearest_frame(CAPACITY, BLOCKS, header, pages, BLOCKS * WAL_BLOCK_ENTRIES, frames,
+                                                 BLOCKS * WAL_BLOCK_ENTRIES, page, to_frame);
+    printf("page %" PRIu64 " nearest to %" PRIu64 ": ", page, to_frame);
+    if (r.refusal != 0)
+        printf("refused %" PRIu32 "\n", r.refusal);
+    else if (r.found == 1)
+        printf("frame %" PRIu64 "\n", r.frame);
+    else
+        printf("none\n");
+}
+
 static void list(uint64_t up_to) {
     uint64_t out_pages[8], out_frames[8];
     struct wal_list_reply r = wal_iter_latest_frames(CAPACITY, BLOCKS, header, pages, BLOCKS * WAL_BLOCK_ENTRIES,
@@ -113,6 +138,7 @@ int main(void) {
     wal_publish_commit(&header, 3, 0, 0, 2);
     find(7, reader.mark);
     list(reader.mark);
+    written(7, 2, reader.mark);
     limit();
 
     uint32_t refusal = wal_unregister_reader_for_snapshot(SLOTS, MODE, bitmap, 1, reader_frames, SLOTS, reader_owners,
@@ -120,6 +146,8 @@ int main(void) {
                                                           reader.slot, reader.owner);
     printf("release: %" PRIu32 "\n", refusal);
     find(7, header.max_frame);
+    written(7, 2, header.max_frame);
+    nearest(7, 2);
     limit();
     return 0;
 }

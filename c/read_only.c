@@ -67,7 +67,8 @@ struct call {
     static const struct call name = {#name, make_##name};            \
     static struct answer make_##name(const struct given *g)
 
-#define INDEX_OF(g) w->pages, (g)->pages, w->frames, (g)->frames, w->hash, (g)->hash
+#define ENTRIES_OF(g) w->pages, (g)->pages, w->frames, (g)->frames
+#define INDEX_OF(g) ENTRIES_OF(g), w->hash, (g)->hash
 #define SLOTS_OF(g)                                                                                              \
     w->bitmap, (g)->bitmap, w->reader_frames, (g)->reader_frames, w->reader_owners, (g)->reader_owners,          \
         w->local_readers, (g)->local_readers
@@ -135,6 +136,18 @@ CALL(find_frame) {
     struct wal_find_reply r = wal_find_frame(g->capacity, g->max_blocks, w->header, INDEX_OF(g), g->page, g->min,
                                              g->max, g->has_watermark, g->watermark);
     return (struct answer){.refusal = r.refusal, .yes = r.found, .number = r.frame};
+}
+
+static struct answer of_search(struct wal_frame_reply r) {
+    return (struct answer){.refusal = r.refusal, .yes = r.found, .number = r.frame};
+}
+
+CALL(frame_between) {
+    return of_search(wal_frame_between(g->capacity, g->max_blocks, w->header, ENTRIES_OF(g), g->page, g->min, g->max));
+}
+
+CALL(nearest_frame) {
+    return of_search(wal_nearest_frame(g->capacity, g->max_blocks, w->header, ENTRIES_OF(g), g->page, g->frame));
 }
 
 CALL(iter_latest_frames) {
@@ -389,7 +402,7 @@ static struct given indexed(void) {
 }
 
 /* Refusals 1 and 2, which all calls on the index have. */
-static void index_refusals(struct call call) {
+static void entries_refusals(struct call call) {
     struct given g = indexed();
     REFUSED_WITH(call, capacity = 0, WAL_REFUSED_SETTINGS);
     REFUSED_WITH(call, capacity = WAL_MAX_CAPACITY + 1, WAL_REFUSED_SETTINGS);
@@ -398,11 +411,17 @@ static void index_refusals(struct call call) {
     REFUSED_WITH(call, max_blocks = WAL_MAX_BLOCKS + 1, WAL_REFUSED_SETTINGS);
     REFUSED_WITH(call, pages -= 1, WAL_REFUSED_SHORT_MEMORY);
     REFUSED_WITH(call, frames -= 1, WAL_REFUSED_SHORT_MEMORY);
-    REFUSED_WITH(call, hash -= 1, WAL_REFUSED_SHORT_MEMORY);
     w->header.frame_index_blocks = BLOCKS + 1;
     REFUSED(call, "more blocks than their maximum", WAL_REFUSED_SETTINGS);
     w->header.frame_index_blocks = 0;
     REFUSED(call, "more entries than the blocks have", WAL_REFUSED_SETTINGS);
+}
+
+/* The same of calls that are lent the hash. */
+static void index_refusals(struct call call) {
+    entries_refusals(call);
+    struct given g = indexed();
+    REFUSED_WITH(call, hash -= 1, WAL_REFUSED_SHORT_MEMORY);
 }
 
 static void records(void) {
@@ -487,6 +506,35 @@ static void lookups(void) {
     g.min = 1;
     w->header.frame_index_len = 0;
     STORES_NOTHING(iter_latest_frames, "an empty index", 0);
+}
+
+/* They change nothing in any case. */
+static void searches(void) {
+    struct given g = indexed();
+    g.min = 2;
+    STORES_NOTHING(frame_between, "a frame that is not published", .yes = 1, .number = 3);
+    g.min = 0;
+    g.max = 1;
+    STORES_NOTHING(frame_between, "a published frame", .yes = 1, .number = 1);
+    g.min = g.max = 2;
+    STORES_NOTHING(frame_between, "between no frames", 0);
+    g.min = 3;
+    g.max = 1;
+    STORES_NOTHING(frame_between, "bounds in the wrong order", 0);
+    g.frame = 9;
+    STORES_NOTHING(nearest_frame, "a frame that is not published", .yes = 1, .number = 3);
+    g.frame = 2;
+    STORES_NOTHING(nearest_frame, "two frames as near", .yes = 1, .number = 1);
+
+    g.min = 0;
+    g.max = UINT64_MAX;
+    g.page = 8;
+    STORES_NOTHING(frame_between, "an absent page", 0);
+    STORES_NOTHING(nearest_frame, "an absent page", 0);
+    g.page = 7;
+    w->header.frame_index_len = 0;
+    STORES_NOTHING(frame_between, "an empty index", 0);
+    STORES_NOTHING(nearest_frame, "an empty index", 0);
 }
 
 /* --- Readers ---------------------------------------------------------------------------------------------------- */
@@ -737,9 +785,12 @@ int main(void) {
     index_refusals(rollback_frames);
     index_refusals(find_frame);
     index_refusals(iter_latest_frames);
+    entries_refusals(frame_between);
+    entries_refusals(nearest_frame);
     records();
     rollbacks();
     lookups();
+    searches();
     registrations();
     moves();
     releases();

@@ -57,7 +57,7 @@ extern "C" {
 /* The version of this header and its library; the Rust crate has the same. As one number 1.2.3 is 1002003. Where a
  * declaration changes, the minor number rises as long as the major one is 0: a host is then compiled anew. */
 #define WAL_COORDINATION_VERSION_MAJOR 0
-#define WAL_COORDINATION_VERSION_MINOR 2
+#define WAL_COORDINATION_VERSION_MINOR 3
 #define WAL_COORDINATION_VERSION_PATCH 0
 #define WAL_COORDINATION_VERSION                                                       \
     (WAL_COORDINATION_VERSION_MAJOR * 1000000 + WAL_COORDINATION_VERSION_MINOR * 1000 + \
@@ -248,6 +248,33 @@ struct wal_find_reply wal_find_frame(uint32_t capacity, uint32_t max_blocks, str
                                      uint64_t min_frame, uint64_t max_frame, uint32_t has_watermark,
                                      uint64_t watermark);
 
+/* found: 1 if there is a frame, and then frame is it; else both are 0. */
+struct wal_frame_reply {
+    uint32_t refusal;
+    uint32_t found;
+    uint64_t frame;
+};
+
+/* Whether a page was written from min_frame to max_frame, both included: a frame of the page between them, or none
+ * exactly when there is none. Which of several frames is given is not decided, and no host may count on it: not on the
+ * lowest or the latest one, and not on the same one at the next call or in the next version. Bounds in the wrong order
+ * give none. Nothing changes. Refusals 1, 2.
+ *
+ * This call and wal_nearest_frame go by the entries: all below frame_index_len, published or not, also where damaged
+ * frames do not rise. The hash is not lent, so neither what it holds nor how long it is matters. They look at one entry
+ * after the other, and at every one where none fits; wal_find_frame is faster for a page's latest frame.
+ * docs/LIFE-OF-A-FRAME.md says which call answers which question ("Was it written?"). */
+struct wal_frame_reply wal_frame_between(uint32_t capacity, uint32_t max_blocks, struct wal_header header,
+                                         const uint64_t *pages, size_t pages_len, const uint64_t *frames,
+                                         size_t frames_len, uint64_t page_id, uint64_t min_frame, uint64_t max_frame);
+
+/* The frame of a page that is nearest to to_frame, before it, after it or to_frame itself; the lower of two that are as
+ * near. None if the page has no frame. The distance is the greater frame less the lower, up to 2^64 - 1. Nothing
+ * changes. Refusals 1, 2. */
+struct wal_frame_reply wal_nearest_frame(uint32_t capacity, uint32_t max_blocks, struct wal_header header,
+                                         const uint64_t *pages, size_t pages_len, const uint64_t *frames,
+                                         size_t frames_len, uint64_t page_id, uint64_t to_frame);
+
 /* count: how many pairs were written. */
 struct wal_list_reply {
     uint32_t refusal;
@@ -426,6 +453,10 @@ WAL_LAYOUT(offsetof(struct wal_find_reply, found), 4);
 WAL_LAYOUT(offsetof(struct wal_find_reply, frame), 8);
 WAL_LAYOUT(offsetof(struct wal_find_reply, cells), 16);
 WAL_LAYOUT(sizeof(struct wal_find_reply), 24);
+WAL_LAYOUT(offsetof(struct wal_frame_reply, refusal), 0);
+WAL_LAYOUT(offsetof(struct wal_frame_reply, found), 4);
+WAL_LAYOUT(offsetof(struct wal_frame_reply, frame), 8);
+WAL_LAYOUT(sizeof(struct wal_frame_reply), 16);
 WAL_LAYOUT(offsetof(struct wal_list_reply, refusal), 0);
 WAL_LAYOUT(offsetof(struct wal_list_reply, count), 8);
 WAL_LAYOUT(sizeof(struct wal_list_reply), 16);

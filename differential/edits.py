@@ -125,11 +125,11 @@ def each(edits, tried):
         yield from zip(edits, pool.map(in_folder, edits))
 
 
-def compared(words, env):
+def compared(words, env, timeout=TIMEOUT):
     """Whether ./compare shows a difference with these settings, and what it says."""
     words = [str(ROOT / "compare"), *words]
     try:
-        run = subprocess.run(words, env={**os.environ, **env}, capture_output=True, text=True, timeout=TIMEOUT)
+        run = subprocess.run(words, env={**os.environ, **env}, capture_output=True, text=True, timeout=timeout)
     except subprocess.TimeoutExpired:
         return True, "the port does not come to an end"
     if run.returncode < 0:

@@ -7,16 +7,20 @@ use std::{env, fs};
 fn main() {
     let own = env::var("CARGO_MANIFEST_DIR").expect("cargo sets it");
     let out = env::var("OUT_DIR").expect("cargo sets it");
-    let (source, headers) = (Path::new(&own).join("src/plain.c"), Path::new(&own).join("../../c"));
-    println!("cargo:rerun-if-changed={}", source.display());
+    let (own, out) = (Path::new(&own), Path::new(&out));
+    let (headers, library) = (own.join("../../c"), out.join("libplain.a"));
     println!("cargo:rerun-if-changed={}", headers.join("wal_coordination.h").display());
-    let (object, library) = (Path::new(&out).join("plain.o"), Path::new(&out).join("libplain.a"));
-    let mut gcc = Command::new("gcc");
-    gcc.args(["-O2", "-std=c11", "-Wall", "-Wextra", "-Werror", "-I"]).arg(headers).arg("-c").arg(source);
-    run(gcc.arg("-o").arg(&object));
     // `ar` adds to an archive that is there.
     let _ = fs::remove_file(&library);
-    run(Command::new("ar").arg("crs").arg(library).arg(object));
+    for (name, flags) in [("plain", &[][..]), ("plain_searches", &["-falign-functions=64", "-falign-loops=64"])] {
+        let (source, object) = (own.join("src").join(name).with_extension("c"), out.join(name).with_extension("o"));
+        println!("cargo:rerun-if-changed={}", source.display());
+        let mut gcc = Command::new("gcc");
+        gcc.args(["-O2", "-std=c11", "-Wall", "-Wextra", "-Werror"]).args(flags).arg("-I").arg(&headers);
+        run(gcc.arg("-c").arg(source).arg("-o").arg(&object));
+        run(Command::new("ar").arg("crs").arg(&library).arg(object));
+    }
+    let out = out.display();
     println!("cargo:rustc-link-search=native={out}");
     println!("cargo:rustc-link-lib=static=plain");
 }

@@ -2,7 +2,8 @@
 //!
 //! Several processes share a [`Memory`]. Each has a [`Process`]: its own cells, its registry of shared marks, and the
 //! [`ByteLocks`] that the processes lock each other out with. The calls are those of turso_core's
-//! `shared_wal_coordination`, by its names; behind each stands a C function of the proved static library.
+//! `shared_wal_coordination`, by its names, with [`Process::copy_back_limit`], [`Process::frame_between`] and
+//! [`Process::nearest_frame`], which it does not have; behind each stands a C function of the proved static library.
 //!
 //! ```
 //! use wal_coordination::{OneProcess, OwnedMemory, Process, Recorded};
@@ -45,6 +46,7 @@
 //!   [`Process::has_active_db_file_reader`]: see [`Process::copy_back_limit`].
 //! - **A full index stays full.** What a host does then is said at [`Process::record_frame`].
 //! - **Few pages written often make lookups slow.** [`Process::probe_lengths`] shows it.
+//! - **Which frame [`Process::frame_between`] gives is not decided** where a page has several between the bounds.
 //!
 //! `docs/LIFE-OF-A-FRAME.md` of the repository has the whole course.
 //!

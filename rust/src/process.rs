@@ -65,6 +65,11 @@ fn accepted(refusal: u32) -> Result<(), Refusal> {
     }
 }
 
+fn frame(reply: sys::FrameReply) -> Result<Option<u64>, Refusal> {
+    accepted(reply.refusal)?;
+    Ok((reply.found == 1).then_some(reply.frame))
+}
+
 fn reader_slot(reply: sys::ReaderReply) -> Result<Option<SharedReaderSlot>, Refusal> {
     accepted(reply.refusal)?;
     let reader = SharedReaderSlot::new(Slot(reply.slot as usize), SharedOwnerRecord(reply.owner), reply.mark);
@@ -230,6 +235,77 @@ impl<L: ByteLocks> Process<L> {
         let reply = sys::find_frame(index, page_id, min_frame, max_frame, frame_watermark);
         accepted(reply.refusal)?;
         Ok(Lookup { frame: (reply.found == 1).then_some(reply.frame), cells: reply.cells })
+    }
+
+    /// Whether a page was written from `min_frame` to `max_frame`, both included: a frame of the page between them, or
+    /// none exactly when there is none. Bounds in the wrong order give none.
+    ///
+    /// **Which of several frames is given is not decided**, and no host may count on it: not on the lowest or the
+    /// latest one, and not on the same one at the next call or in the next version.
+    ///
+    /// It goes by the entries, all that the index has, published or not; the hash is not looked at. It looks at one
+    /// entry after the other, and at every one where none fits: for the latest frame up to a mark
+    /// [`find_frame`](Self::find_frame) is faster.
+    ///
+    /// ```
+    /// # use wal_coordination::{SharedWalOwnershipMode::*, *};
+    /// # let settings = Settings::new(64, 1, 1, LinuxOfd);
+    /// # let mut owned = OwnedMemory::fresh(&settings, 1)?;
+    /// # let mut memory = owned.lend();
+    /// # let process = Process::new(settings, OneProcess)?;
+    /// for (page, frame) in [(7, 1), (8199, 2), (7, 3), (7, 4)] {
+    ///     process.record_frame(&mut memory, page, frame, false)?;
+    /// }
+    /// // Was page 8,199 written from frame 2 to frame 4? And from frame 3 on?
+    /// assert_eq!(process.frame_between(&memory, 8199, 2, 4), Ok(Some(2)));
+    /// assert_eq!(process.frame_between(&memory, 8199, 3, 4), Ok(None));
+    ///
+    /// // Page 7 was written twice there: the answer is one of the two frames.
+    /// let frame = process.frame_between(&memory, 7, 2, 4)?;
+    /// assert!(frame == Some(3) || frame == Some(4));
+    /// # Ok::<(), Refusal>(())
+    /// ```
+    ///
+    /// # Errors
+    ///
+    /// In damaged memory or memory of other settings, [`Refusal::Settings`], and [`Refusal::ShortMemory`] for too few
+    /// cells of pages or frames.
+    pub fn frame_between(
+        &self,
+        memory: &Memory<'_>,
+        page_id: u64,
+        min_frame: u64,
+        max_frame: u64,
+    ) -> Result<Option<u64>, Refusal> {
+        frame(sys::frame_between(memory.index_to_read(&self.settings), page_id, min_frame, max_frame))
+    }
+
+    /// The frame of a page that is nearest to `to_frame`: before it, after it, or `to_frame` itself. Of two that are as
+    /// near it is the lower one. `None` if the page has no frame.
+    ///
+    /// It goes by the entries as [`frame_between`](Self::frame_between) does, and looks at every one.
+    ///
+    /// ```
+    /// # use wal_coordination::{SharedWalOwnershipMode::*, *};
+    /// # let settings = Settings::new(64, 1, 1, LinuxOfd);
+    /// # let mut owned = OwnedMemory::fresh(&settings, 1)?;
+    /// # let mut memory = owned.lend();
+    /// # let process = Process::new(settings, OneProcess)?;
+    /// for (page, frame) in [(7, 10), (8199, 14), (7, 20)] {
+    ///     process.record_frame(&mut memory, page, frame, false)?;
+    /// }
+    /// assert_eq!(process.nearest_frame(&memory, 7, 14), Ok(Some(10)));
+    /// assert_eq!(process.nearest_frame(&memory, 7, 16), Ok(Some(20)));
+    /// assert_eq!(process.nearest_frame(&memory, 7, 15), Ok(Some(10))); // 20 is as near
+    /// assert_eq!(process.nearest_frame(&memory, 8, 14), Ok(None));
+    /// # Ok::<(), Refusal>(())
+    /// ```
+    ///
+    /// # Errors
+    ///
+    /// As [`frame_between`](Self::frame_between).
+    pub fn nearest_frame(&self, memory: &Memory<'_>, page_id: u64, to_frame: u64) -> Result<Option<u64>, Refusal> {
+        frame(sys::nearest_frame(memory.index_to_read(&self.settings), page_id, to_frame))
     }
 
     /// Each page's latest frame up to `max_frame`, if it is at least `min_frame`: pairs of page and frame, by rising

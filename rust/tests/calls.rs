@@ -126,6 +126,8 @@ fn a_hold_keeps_its_answers(mode: SharedWalOwnershipMode) -> Result<(), Refusal>
     assert_eq!(reader.find_frame(memory, 7, 1, 3, None), Ok(Some(3)));
     assert_eq!(reader.find_frame(memory, 9, 1, 3, None), Ok(None));
     assert_eq!(reader.iter_latest_frames(memory, 1, 3), Ok(vec![(7, 3), (8, 2)]));
+    assert_eq!(reader.frame_between(memory, 7, 2, 3), Ok(Some(3)));
+    assert_eq!(reader.frame_between(memory, 9, 1, 3), Ok(None));
     assert_eq!(writer.min_active_reader_frame(memory), Ok(Some(3)));
     assert_eq!(writer.copy_back_limit(memory), Ok(3));
 

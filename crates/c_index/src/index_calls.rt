@@ -1,11 +1,15 @@
 // The calls on the frame index. Those that change it have the header lent, and store over it only where a cell of it
-// changes; a lookup and a list are given it by value.
+// changes; a lookup, a search and a list are given it by value.
 use c_index_replies::index_reply;
 use c_index_replies::index_reply::IndexReply;
 use c_index_replies::lookup_reply;
 use c_index_replies::lookup_reply::FindReply;
 use c_index_replies::lookup_reply::ListReply;
+use c_index_replies::search_reply;
+use c_index_replies::search_reply::FrameReply;
 use index_find::find;
+use index_scan::between;
+use index_scan::nearest;
 use wal_types::Header;
 ghost use mathlib.Core.Bool.{not};
 ghost use lib.Dec.{eqb};
@@ -14,9 +18,13 @@ ghost use Rattle.index_record.specs.Record.{record-frame};
 ghost use Rattle.index_record.specs.Rollback.{rollback-frames};
 ghost use Rattle.index_find.specs.Find.{find-frame, find-looked};
 ghost use Rattle.list_latest.specs.Latest.{iter-latest-frames};
+ghost use Rattle.index_grown.specs.Entries.{entries-of};
+ghost use Rattle.index_scan.specs.Between.{frame-between, Undecided};
+ghost use Rattle.index_scan.specs.Nearest.{nearest-frame};
 ghost use Rattle.c_index_replies.specs.IndexReply.{IndexReplied};
 ghost use Rattle.c_index_replies.specs.LookupReply.{watermark-given};
 ghost use Rattle.c_index.specs.LookupReplied.{FindReplied, ListReplied};
+ghost use Rattle.c_index.specs.SearchReplied.{FrameReplied, BetweenReplied};
 
 // Appends the entry (page_id, frame_id). grow is the file's answer to a growth by one block: 0 no, else yes.
 #[no_mangle]
@@ -111,6 +119,58 @@ pub extern "C" fn wal_find_frame(
         frame_watermark,
     );
     lookup_reply::looked_up(answer)
+}
+
+// Searches the entries for a frame of the page from min_frame to max_frame. Which one, where there are several, is undecided.
+#[no_mangle]
+pub extern "C" fn wal_frame_between(
+    capacity: u32,
+    max_blocks: u32,
+    header: Header,
+    pages: &[u64],
+    frames: &[u64],
+    page_id: u64,
+    min_frame: u64,
+    max_frame: u64,
+) -> FrameReply
+    ensures { λ r. ⌜ Undecided (frame-between capacity «max_blocks» «page_id» «min_frame» «max_frame») (λ call. FrameReplied call header (now (pages .entry)) (now (frames .entry)) r) × BetweenReplied (entries-of (header .«frame_index_len») (now (pages .entry)) (now (frames .entry))) «page_id» «min_frame» «max_frame» r ⌝ }
+{
+    let answer = between::frame_between(
+        capacity,
+        max_blocks,
+        header,
+        pages,
+        frames,
+        page_id,
+        min_frame,
+        max_frame,
+    );
+    search_reply::searched(answer)
+}
+
+// Searches the entries for the page's nearest frame to a given one: of two that are as near, the lower.
+#[no_mangle]
+pub extern "C" fn wal_nearest_frame(
+    capacity: u32,
+    max_blocks: u32,
+    header: Header,
+    pages: &[u64],
+    frames: &[u64],
+    page_id: u64,
+    to_frame: u64,
+) -> FrameReply
+    ensures { λ r. ⌜ FrameReplied (nearest-frame capacity «max_blocks» «page_id» «to_frame») header (now (pages .entry)) (now (frames .entry)) r ⌝ }
+{
+    let answer = nearest::nearest_frame(
+        capacity,
+        max_blocks,
+        header,
+        pages,
+        frames,
+        page_id,
+        to_frame,
+    );
+    search_reply::searched(answer)
 }
 
 // Lists each page's latest frame within the bounds, by rising page: pages to out_pages, frames to out_frames.

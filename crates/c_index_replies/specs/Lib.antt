@@ -2,3 +2,4 @@
 pub mod IndexReply
 pub mod InnerKept
 pub mod LookupReply
+pub mod InnerSearchReply

@@ -9,7 +9,7 @@ use Rattle.wal_types.specs.Memory.{Memory, Process}
 use Rattle.wal_types.specs.Refusal.{Test, lowest}
 use Rattle.wal_types.specs.Call.{Call, refused, accepted-or, unless, done, after}
 use Rattle.wal_types.proofs.Refusals.{same-outcome, call-refused}
-use Rattle.index_find.specs.Index.{bad-settings, short-index, index-tests, index-refusal}
+use Rattle.index_find.specs.Index.{bad-settings, short-entries, short-index, index-tests, entries-tests, index-refusal, entries-refusal}
 
 first-of : (a b : Bool) (rest n : ℕ) → cond a 1 (cond b 2 0) ≡ n → (n ≡ 0 → ⊥) → cond a 1 (cond b 2 rest) ≡ n
 first-of true b rest n e h = e
@@ -39,3 +39,17 @@ module _ (capacity b : ℕ) (own : Memory → Process → List Test) (call : Cal
   index-passed e =
       same-outcome (whole m p) _ m
       (ap (λ (x : ℕ). accepted-or x p (call m p)) (rest-of (bad-settings capacity b (m .header)) (short-index b (length (m .pages)) (length (m .frames)) (length (m .hash))) (lowest (own m p)) e))
+
+-- The same of a call that is lent no hash, and has no tests of its own.
+module _ (capacity b : ℕ) (call : Call) (m : Memory) (p : Process) where
+  abbrev entries-number : ℕ
+  entries-number = entries-refusal capacity b (m .header) (length (m .pages)) (length (m .frames))
+
+  abbrev entries-whole : Call
+  entries-whole = unless (λ m p. entries-tests capacity b m) call
+
+  pub entries-refused : (n : ℕ) → entries-number ≡ n → (n ≡ 0 → ⊥) → after entries-whole m p ≡ done (refused n) m p
+  entries-refused n e h = call-refused (λ m p. entries-tests capacity b m) call m p n e h
+
+  pub entries-passed : entries-number ≡ 0 → after entries-whole m p ≡ after call m p
+  entries-passed e = same-outcome (entries-whole m p) _ m (ap (λ (x : ℕ). accepted-or x p (call m p)) e)

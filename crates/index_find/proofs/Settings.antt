@@ -7,7 +7,7 @@ use lib.Dec.{leb, ltb}
 use borrow.Author.Tests.{leb-true, ltb-false, not-false}
 use Rattle.wal_types.specs.declared.Header.{Header}
 use Rattle.wal_types.specs.Settings.{within, capacity-in-limits, max-blocks-in-limits, entries-for, cells-for}
-use Rattle.index_find.specs.Index.{bad-settings, short-index, index-refusal}
+use Rattle.index_find.specs.Index.{bad-settings, short-entries, short-index, index-refusal, entries-refusal}
 
 -- of a disjunction that is false, both sides are
 or-false : (a b : Bool) → (a || b) ≡ false → (a ≡ false) × (b ≡ false)
@@ -55,6 +55,15 @@ good-settings capacity b h e =
       len-in-blocks = ltb-false _ _ (e5 .1);
     }
 
+pub record LongEntries (b pages frames : ℕ) : Type 0 where
+  pub pages-long : 4096 * b ≤ pages
+  pub frames-long : 4096 * b ≤ frames
+
+pub long-entries : (b pages frames : ℕ) → short-entries b pages frames ≡ false → LongEntries b pages frames
+long-entries b pages frames e =
+    let e2 = or-false (ltb pages (entries-for b)) (ltb frames (entries-for b)) e in
+    record { pages-long = ltb-false _ _ (e2 .0); frames-long = ltb-false _ _ (e2 .1) }
+
 pub record LongEnough (b pages frames hash : ℕ) : Type 0 where
   pub pages-long : 4096 * b ≤ pages
   pub frames-long : 4096 * b ≤ frames
@@ -62,9 +71,9 @@ pub record LongEnough (b pages frames hash : ℕ) : Type 0 where
 
 pub long-enough : (b pages frames hash : ℕ) → short-index b pages frames hash ≡ false → LongEnough b pages frames hash
 long-enough b pages frames hash e =
-    let e3 = or-false (ltb pages (entries-for b) || ltb frames (entries-for b)) (ltb hash (cells-for b)) e in
-    let e2 = or-false (ltb pages (entries-for b)) (ltb frames (entries-for b)) (e3 .0) in
-    record { pages-long = ltb-false _ _ (e2 .0); frames-long = ltb-false _ _ (e2 .1); hash-long = ltb-false _ _ (e3 .1) }
+    let e2 = or-false (short-entries b pages frames) (ltb hash (cells-for b)) e in
+    let l = long-entries b pages frames (e2 .0) in
+    record { pages-long = l .pages-long; frames-long = l .frames-long; hash-long = ltb-false _ _ (e2 .1) }
 
 first-false : (a b : Bool) → cond a 1 (cond b 2 0) ≡ zero → (a ≡ false) × (b ≡ false)
 first-false true b e = absurd (omega (arith, e))
@@ -78,3 +87,18 @@ module _ (capacity b : ℕ) (h : Header) (pages frames hash : ℕ) (passed : ind
 
   pub passed-long : LongEnough b pages frames hash
   passed-long = long-enough b pages frames hash (first-false (bad-settings capacity b h) (short-index b pages frames hash) passed .1)
+
+  -- a call that is lent no hash is not refused either
+  pub entries-accepted : entries-refusal capacity b h pages frames ≡ 0
+  entries-accepted =
+      let e = first-false (bad-settings capacity b h) (short-index b pages frames hash) passed in
+      rw (e .0, or-false (short-entries b pages frames) (ltb hash (cells-for b)) (e .1) .0)
+
+-- and so of a call that is lent no hash: all entries below the length have their cells
+module _ (capacity b : ℕ) (h : Header) (pages frames : ℕ) (passed : entries-refusal capacity b h pages frames ≡ 0) where
+  pub passed-entries : (h .«frame_index_len» ≤ pages) × (h .«frame_index_len» ≤ frames)
+  passed-entries =
+      let e = first-false (bad-settings capacity b h) (short-entries b pages frames) passed in
+      let g = good-settings capacity b h (e .0) in
+      let l = long-entries b pages frames (e .1) in
+      (omega (arith, g .blocks-in-limit, g .len-in-blocks, l .pages-long), omega (arith, g .blocks-in-limit, g .len-in-blocks, l .frames-long))

@@ -24,21 +24,34 @@ bad-settings capacity b h =
     || ltb b (h .«frame_index_blocks»)
     || ltb (entries-for (h .«frame_index_blocks»)) (h .«frame_index_len»)
 
--- Refusal 2: fewer page, frame or hash cells than B blocks have.
-abbrev pub short-index : ℕ → ℕ → ℕ → ℕ → Bool
-short-index b pages frames hash = ltb pages (entries-for b) || ltb frames (entries-for b) || ltb hash (cells-for b)
+-- Refusal 2: fewer page or frame cells than B blocks have; where the hash is lent, fewer page, frame or hash cells.
+abbrev pub short-entries : ℕ → ℕ → ℕ → Bool
+short-entries b pages frames = ltb pages (entries-for b) || ltb frames (entries-for b)
 
--- the refusals that every call on the index has
+abbrev pub short-index : ℕ → ℕ → ℕ → ℕ → Bool
+short-index b pages frames hash = short-entries b pages frames || ltb hash (cells-for b)
+
+-- the refusals that every call on the index has that is lent the hash, and those of a call that is not
 abbrev pub index-tests : ℕ → ℕ → Memory → List Test
 index-tests capacity b m =
     (settings if bad-settings capacity b (m .header))
     ∷ (short-memory if short-index b (length (m .pages)) (length (m .frames)) (length (m .hash)))
     ∷ []
 
--- the number of the first of them, 0 if there is none
+abbrev pub entries-tests : ℕ → ℕ → Memory → List Test
+entries-tests capacity b m =
+    (settings if bad-settings capacity b (m .header))
+    ∷ (short-memory if short-entries b (length (m .pages)) (length (m .frames)))
+    ∷ []
+
+-- the number of the first of each, 0 if there is none
 abbrev pub index-refusal : ℕ → ℕ → Header → ℕ → ℕ → ℕ → ℕ
 index-refusal capacity b h pages frames hash =
     cond (bad-settings capacity b h) (number settings) (cond (short-index b pages frames hash) (number short-memory) 0)
+
+abbrev pub entries-refusal : ℕ → ℕ → Header → ℕ → ℕ → ℕ
+entries-refusal capacity b h pages frames =
+    cond (bad-settings capacity b h) (number settings) (cond (short-entries b pages frames) (number short-memory) 0)
 
 -- Entry n is in block n / 4,096, at place n mod 4,096.
 abbrev pub block-of : ℕ → ℕ
@@ -104,3 +117,13 @@ IndexCall call = IndexCarried (after call)
 -- On any memory with this header and index in it, the number is c.
 abbrev pub IndexNumber : (Memory → ℕ) → Header → List ℕ → List ℕ → List ℕ → ℕ → Type 0
 IndexNumber number-of h pages frames hash c = (z : Memory) → c ≡ number-of (index-in z h pages frames hash)
+
+-- a memory with this header and these entries in it, and any hash
+abbrev pub entries-in : Memory → Header → List ℕ → List ℕ → Memory
+entries-in z h pages frames = index-in z h pages frames (z .hash)
+
+-- On any memory with this header and these entries in it, by any process, the call answers a and changes nothing. Whatever
+-- the hash holds, and however long it is, the answer is the same.
+abbrev pub EntriesCall : Call → Header → List ℕ → List ℕ → Answer → Type 0
+EntriesCall call h pages frames a =
+    (z : Memory) (p : Process) → after call (entries-in z h pages frames) p ≡ done a (entries-in z h pages frames) p

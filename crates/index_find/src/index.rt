@@ -10,7 +10,7 @@ ghost use Prim.Native.Nat.{_+_, _*_, _<_, _≤_};
 ghost use lib.ListN.{length, set};
 ghost use Rattle.wal_types.specs.Settings.{block-entries, block-cells};
 ghost use Rattle.index_hash.specs.Block.{cleared, empty-cell, built};
-ghost use Rattle.index_find.specs.Index.{bad-settings, short-index, index-refusal, block-cells-of, block-pages-of, with-block};
+ghost use Rattle.index_find.specs.Index.{bad-settings, short-entries, short-index, index-refusal, entries-refusal, block-cells-of, block-pages-of, with-block};
 
 fn bad_settings(capacity: u32, max_blocks: u32, header: Header) -> bool
     ensures { λ r. ⌜ r ≡ bad-settings capacity «max_blocks» header ⌝ }
@@ -36,21 +36,29 @@ fn bad_settings(capacity: u32, max_blocks: u32, header: Header) -> bool
     FRAME_INDEX_BLOCK_CAPACITY * header.frame_index_blocks < header.frame_index_len
 }
 
-fn short_index(max_blocks: u32, pages_len: usize, frames_len: usize, hash_len: usize) -> bool
+fn short_entries(max_blocks: u32, pages_len: usize, frames_len: usize) -> bool
     requires { ⌜ «max_blocks» ≤ 16 ⌝ }
-    ensures { λ r. ⌜ r ≡ short-index «max_blocks» «pages_len» «frames_len» «hash_len» ⌝ }
+    ensures { λ r. ⌜ r ≡ short-entries «max_blocks» «pages_len» «frames_len» ⌝ }
 {
     let blocks = max_blocks as usize;
     if pages_len < BLOCK_ENTRIES * blocks {
         return true;
     }
-    if frames_len < BLOCK_ENTRIES * blocks {
+    frames_len < BLOCK_ENTRIES * blocks
+}
+
+fn short_index(max_blocks: u32, pages_len: usize, frames_len: usize, hash_len: usize) -> bool
+    requires { ⌜ «max_blocks» ≤ 16 ⌝ }
+    ensures { λ r. ⌜ r ≡ short-index «max_blocks» «pages_len» «frames_len» «hash_len» ⌝ }
+{
+    if short_entries(max_blocks, pages_len, frames_len) {
         return true;
     }
+    let blocks = max_blocks as usize;
     hash_len < BLOCK_CELLS * blocks
 }
 
-// The number of the refusal that every call on the index has, 0 if there is none.
+// The number of the refusal that every call on the index has that is lent the hash, 0 if there is none.
 pub fn index_refusal(
     capacity: u32,
     max_blocks: u32,
@@ -65,6 +73,25 @@ pub fn index_refusal(
         return refusal::SETTINGS;
     }
     if short_index(max_blocks, pages_len, frames_len, hash_len) {
+        return refusal::SHORT_MEMORY;
+    }
+    0
+}
+
+// The same of a call that is lent the entries without the hash.
+pub fn entries_refusal(
+    capacity: u32,
+    max_blocks: u32,
+    header: Header,
+    pages_len: usize,
+    frames_len: usize,
+) -> u32
+    ensures { λ r. ⌜ r ≡ entries-refusal capacity «max_blocks» header «pages_len» «frames_len» ⌝ }
+{
+    if bad_settings(capacity, max_blocks, header) {
+        return refusal::SETTINGS;
+    }
+    if short_entries(max_blocks, pages_len, frames_len) {
         return refusal::SHORT_MEMORY;
     }
     0

@@ -204,11 +204,11 @@ IsGreatest l page low high (Frame f) =
 IsGreatest l page low high NoFrame = (g : ℕ) → List·Memᴰ (pair page g) l → low ≤ g → g ≤ high → ⊥
 
 -- a pair by its page and frame
-here : (page low high : ℕ) (q : Pair) (f : ℕ) → (q .page ≡ page) × ((q .frame ≡ f) × ((low ≤ f) × (f ≤ high))) → pair page f ≡ q
+pub here : (page low high : ℕ) (q : Pair) (f : ℕ) → (q .page ≡ page) × ((q .frame ≡ f) × ((low ≤ f) × (f ≤ high))) → pair page f ≡ q
 here page low high q f given = sym (ap₂ pair (given .0) (given .1 .0))
 
 -- a pair that gives no frame is not of the page within the bounds
-not-here : (page low high : ℕ) (q : Pair) (h : ℕ) → frame-in page low high q ≡ NoFrame → pair page h ≡ q → low ≤ h → h ≤ high → ⊥
+pub not-here : (page low high : ℕ) (q : Pair) (h : ℕ) → frame-in page low high q ≡ NoFrame → pair page h ≡ q → low ≤ h → h ≤ high → ⊥
 not-here page low high q h e s c d =
     let a : page ≡ q .page = ap (λ (x : Pair). x .page) s in
     let b : h ≡ q .frame = ap (λ (x : Pair). x .frame) s in

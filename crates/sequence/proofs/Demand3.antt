@@ -12,10 +12,11 @@ use Rattle.index_find.specs.Find.{lookup-answer}
 use Rattle.reader_slots.specs.Slots.{held}
 use Rattle.index_grown.specs.Entries.{greatest}
 use Rattle.index_grown.specs.Listed.{IsListOf}
-use Rattle.sequence.specs.Sequence.{Settings, find-op, list-op, floor-op, limit-op, Op, look-op, probe-op, perform, World, Event, answer-of}
+use Rattle.index_scan.specs.Between.{frame-chosen}
+use Rattle.sequence.specs.Sequence.{Settings, find-op, list-op, between-op, floor-op, limit-op, Op, look-op, probe-op, perform, World, Event, answer-of}
 use Rattle.sequence.specs.Hold.{Kind}
 use Rattle.sequence.specs.Statement.{at-now, book, Premises, Demand3}
-use Rattle.sequence.proofs.IndexAnswers.{find-seen, list-seen}
+use Rattle.sequence.proofs.IndexAnswers.{find-seen, list-seen, between-seen}
 use Rattle.sequence.proofs.ReadersInv.{Standing}
 use Rattle.sequence.proofs.ReadersHold.{mark-stays}
 use Rattle.sequence.proofs.ReadersFloor.{floor-bound, limit-bound}
@@ -35,7 +36,7 @@ module _ (s : Settings) (start : ℕ) (fresh : World) (before : List Event) (beg
   abbrev left : Op → Done
   left op = after (perform s op) (world .memory) (world .processes (now .who))
 
-  -- LOOKUPS AND LISTS up to m answer by the book as it stood when the hold began
+  -- LOOKUPS, LISTS AND SEARCHES up to m answer by the book as it stood when the hold began
   lookup : (page low high : ℕ) → now .op ≡ look-op (find-op page low high NoWatermark) → high ≤ m → accepted (answer-of s now world) → answer-of s now world ≡ lookup-answer (greatest pairs page low high)
   lookup page low high e most =
       subst (λ (op : Op). accepted (left op .answer) → left op .answer ≡ lookup-answer (greatest pairs page low high)) (sym e)
@@ -45,6 +46,11 @@ module _ (s : Settings) (start : ℕ) (fresh : World) (before : List Event) (beg
   listing low high room-pages room-frames e most =
       subst (λ (op : Op). accepted (left op .answer) → (l : List Pair) × (left op .answer ≡ listed l) × IsListOf pairs low high l) (sym e)
       (list-seen s (world .memory) (world .processes (now .who)) (here .now-book) (here .by-book) m pairs (here .seen) low high most room-pages room-frames)
+
+  between : (page low high choice : ℕ) → now .op ≡ look-op (between-op page low high choice) → high ≤ m → accepted (answer-of s now world) → answer-of s now world ≡ lookup-answer (frame-chosen pairs page low high choice)
+  between page low high choice e most =
+      subst (λ (op : Op). accepted (left op .answer) → left op .answer ≡ lookup-answer (frame-chosen pairs page low high choice)) (sym e)
+      (between-seen s (world .memory) (world .processes (now .who)) (here .now-book) (here .by-book) m pairs (here .seen) low high most page choice)
 
   -- FLOORS AND LIMITS are at most m
   abbrev slot : Standing (s .slots) i m (world .memory) (world .processes (begin .who))
@@ -72,6 +78,7 @@ demand-3 s start fresh before begin during now kind i m given =
     record {
       lookup-owed = lookup s start fresh before begin during now kind i m given;
       list-owed = listing s start fresh before begin during now kind i m given;
+      between-owed = between s start fresh before begin during now kind i m given;
       floor-owed = floor s start fresh before begin during now kind i m given;
       limit-owed = limit s start fresh before begin during now kind i m given;
     }

@@ -48,11 +48,14 @@ use Rattle.index_grown.proofs.Answers.{grown-accepted, find-done, list-done}
 use Rattle.index_grown.proofs.Listed.{list-gives}
 use Rattle.index_grown.proofs.Unique.{listed-once}
 use Rattle.index_grown.proofs.Views.{view-listed}
+use Rattle.index_find.proofs.Settings.{entries-accepted}
+use Rattle.index_scan.specs.Between.{frames-between, chosen, frame-chosen, frame-between}
+use Rattle.index_scan.proofs.Scanned.{scan-answers}
 use Rattle.sequence.specs.Sequence.{find-op, rollback-op, look-op, index-op, World, Event, answer-of, next, run, FreshWorld, Throughout}
 use Rattle.sequence.specs.Book.{Book, empty-book, book-after, InPairs, here, there}
 use Rattle.sequence.specs.Hold.{holders-after, direct, shared, begins-direct, begins-shared, SharedLasts, EndsDirect, RollsBack, rolls-back, KeepsAbove, SameSlot, LeavesSlot}
 use Rattle.sequence.specs.Statement.{at-now, Premises, Demand3}
-use Rattle.sequence.specs.Example.{small, zeros, fresh-memory, fresh-process, fresh-world, reader, before, begin, during, Held, answered, lookup, listing, floor, limit, begin-shared, during-shared, own-floor, Example}
+use Rattle.sequence.specs.Example.{small, zeros, fresh-memory, fresh-process, fresh-world, reader, before, begin, during, Held, answered, lookup, listing, search, floor, limit, begin-shared, during-shared, own-floor, Example}
 use Rattle.sequence.proofs.IndexStands.{fresh-stands, run-stands}
 use Rattle.sequence.proofs.Trace.{left-by, ComesTo, Trace, over, step, append, trace-run, trace-answers, trace-book, trace-lasts, throughout}
 use Rattle.sequence.proofs.Demand3.{demand-3}
@@ -398,6 +401,20 @@ newest : after (find-frame 4096 1 7 1 5 NoWatermark) m11 holder ≡ done (frame-
 unfolding greatest
 newest = looks 7 1 5 (frame-found 5) refl
 
+searched : (choice : ℕ) (a : Answer) → lookup-answer (frame-chosen five 7 1 3 choice) ≡ a → after (frame-between 4096 1 7 1 3 choice) m11 holder ≡ done a m11 holder
+unfolding frame-between
+searched choice a e =
+    scan-answers 4096 1 (λ es. frame-chosen es 7 1 3 choice) (m11 .header) (m11 .pages) (m11 .frames) (entries-accepted 4096 1 (m11 .header) (length (m11 .pages)) (length (m11 .frames)) (length (m11 .hash)) passed) (frame-chosen (entries m11) 7 1 3 choice) refl m11 holder
+    ∙ ap (λ (x : Answer). done x m11 holder) (ap (λ (l : List Pair). lookup-answer (frame-chosen l 7 1 3 choice)) entries-now ∙ e)
+
+first-frame : after (frame-between 4096 1 7 1 3 0) m11 holder ≡ done (frame-found 1) m11 holder
+unfolding frames-between chosen
+first-frame = searched 0 (frame-found 1) refl
+
+last-frame : after (frame-between 4096 1 7 1 3 1) m11 holder ≡ done (frame-found 3) m11 holder
+unfolding frames-between chosen
+last-frame = searched 1 (frame-found 3) refl
+
 floored : after (min-active-reader-frame 2 LinuxOfd (0 ∷ 1 ∷ [])) m11 fresh-process ≡ done (frame-found 3) m11 fresh-process
 unfolding min-active-reader-frame byte-above some-slot floor-from empty-slots
 floored = refl
@@ -521,6 +538,9 @@ example =
       lookup-gives = gives lookup _ looked-up;
       list-held = held listing _ listed-now (λ x. absurd (x refl));
       list-gives = gives listing _ listed-now;
+      search-held = held (search 0) _ first-frame (λ x. absurd (x refl));
+      search-gives = gives (search 0) _ first-frame;
+      other-choice-gives = gives (search 1) _ last-frame;
       floor-held = held floor _ floored (λ x. same-slot refl refl refl);
       floor-gives = gives floor _ floored;
       limit-held = held limit _ limited (λ x. same-slot refl refl refl);
@@ -542,6 +562,12 @@ unfolding Demand3
 list-by-demand-3 =
     let owed = demand-3 small 1 fresh-world before begin during listing direct 0 3 (example .list-held) .list-owed 1 3 8 8 refl (omega arith) (subst accepted (sym (example .list-gives)) (λ r. elim r [ ])) in
     owed .1 ∙ ap listed (listed-once three 1 3 (owed .0) _ (subst (λ (b : Book). IsListOf (b .pairs) 1 3 (owed .0)) book-begins (owed .2)) is-three)
+
+pub search-by-demand-3 : answered (search 0) ≡ frame-found 1
+unfolding Demand3 frames-between chosen
+search-by-demand-3 =
+    demand-3 small 1 fresh-world before begin during (search 0) direct 0 3 (example .search-held) .between-owed 7 1 3 0 refl (omega arith) (subst accepted (sym (example .search-gives)) (λ r. elim r [ ]))
+    ∙ ap (λ (b : Book). lookup-answer (frame-chosen (b .pairs) 7 1 3 0)) book-begins
 
 pub floor-by-demand-3 : (f : ℕ) × (answered floor ≡ frame-found f) × (f ≤ 3)
 unfolding Demand3

@@ -1,5 +1,5 @@
--- Lookups and lists up to a mark answer by the pairs that are seen up to it. Assumes nothing.
-use mathlib.Core.Path.{_≡_, refl, sym, ap, subst}
+-- Lookups, lists and searches up to a mark answer by the pairs that are seen up to it. Assumes nothing.
+use mathlib.Core.Path.{_≡_, refl, sym, _∙_, ap, subst}
 use mathlib.Core.Bool.{_||_}
 use mathlib.Core.List.{List, [], _∷_}
 use mathlib.Core.Logic.{_⊎_, inl, inr}
@@ -21,6 +21,9 @@ use Rattle.index_grown.specs.Listed.{IsListOf}
 use Rattle.index_grown.proofs.Answers.{find-cases, list-cases}
 use Rattle.index_grown.proofs.Listed.{list-gives}
 use Rattle.index_grown.proofs.Views.{view-greatest, view-listed}
+use Rattle.index_scan.specs.Between.{frame-chosen, frame-between}
+use Rattle.index_scan.proofs.Scanned.{scan-accepted}
+use Rattle.index_scan.proofs.Choices.{view-chosen}
 use Rattle.sequence.specs.Sequence.{Settings}
 use Rattle.sequence.specs.Book.{Book}
 use Rattle.sequence.proofs.IndexStands.{refusal-of, Stands}
@@ -63,3 +66,11 @@ module _ (s : Settings) (m : Memory) (p : Process) (b : Book) (stands : Stands s
           list-cases (s .capacity) (s .max-blocks) low high room-pages room-frames m p Gives (λ n x. absurd (x turned-away))
           (λ x. (pairs-of m (listed-entries low high m), refl, view-listed mark (entries m) es (sym (seen .same-view)) low high most _ (list-gives (s .capacity) (s .max-blocks) m g low high)))
       go (inr shut) = subst Gives (sym (list-refused (s .capacity) (s .max-blocks) low high room-pages room-frames m p (refusal-of s m) refl shut)) (λ x. absurd (x turned-away))
+
+  -- a search between two frames that is not refused gives what its choice gives among the pairs that are seen
+  pub between-seen : (page choice : ℕ) → accepted (after (frame-between (s .capacity) (s .max-blocks) page low high choice) m p .answer)
+      → after (frame-between (s .capacity) (s .max-blocks) page low high choice) m p .answer ≡ lookup-answer (frame-chosen es page low high choice)
+  unfolding frame-between
+  between-seen page choice a =
+      scan-accepted (s .capacity) (s .max-blocks) (λ l. frame-chosen l page low high choice) m p a
+      ∙ ap lookup-answer (view-chosen mark es (entries m) (seen .same-view) low high most page choice)

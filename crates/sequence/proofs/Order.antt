@@ -20,6 +20,9 @@ use Rattle.index_end.specs.Place.{started, drops}
 use Rattle.index_record.specs.Record.{drop-stores, enter-stores, records, record-frame}
 use Rattle.index_record.specs.Rollback.{rollback-frames}
 use Rattle.list_latest.specs.Latest.{iter-latest-frames}
+use Rattle.index_grown.specs.Entries.{entries}
+use Rattle.index_scan.specs.Between.{frame-chosen, frame-between}
+use Rattle.index_scan.specs.Nearest.{nearest, nearest-frame}
 use Rattle.reader_slots.specs.declared.slots.Slot.{Slot}
 use Rattle.reader_slots.specs.declared.slots.Slot.the-variants.{At, Nothing}
 use Rattle.reader_register.specs.Register.{slot-answer, chosen-slot, register-reader}
@@ -32,7 +35,7 @@ use Rattle.reader_marks.specs.declared.Record.{Record}
 use Rattle.reader_marks.specs.declared.Record.the-variants.{At as AtRecord, Nothing as NoRecord}
 use Rattle.reader_marks.specs.Registry.{one-less, record-of, with-record}
 use Rattle.reader_shared.specs.Shared.{last-holder, shares, unshares, register-reader-for-snapshot, unregister-reader-for-snapshot}
-use Rattle.sequence.specs.Sequence.{Settings, LookOp, IndexOp, HeaderOp, ProbeOp, SlotOp, SharedOp, Op, perform, find-op, list-op, record-op, rollback-op, acquire-op, unlock-op, backfill-op, seq-op, epoch-op, floor-op, limit-op, db-reader-op, register-op, move-op, release-op, share-op, unshare-op, look-op, index-op, commit-op, header-op, probe-op, slot-op, shared-op}
+use Rattle.sequence.specs.Sequence.{Settings, LookOp, IndexOp, HeaderOp, ProbeOp, SlotOp, SharedOp, Op, perform, find-op, list-op, between-op, nearest-op, record-op, rollback-op, acquire-op, unlock-op, backfill-op, seq-op, epoch-op, floor-op, limit-op, db-reader-op, register-op, move-op, release-op, share-op, unshare-op, look-op, index-op, commit-op, header-op, probe-op, slot-op, shared-op}
 use Rattle.sequence.specs.Order.{RefusedInOrder, RefusalsInOrder}
 
 -- the number of a refusal, 0 of any other answer
@@ -99,9 +102,11 @@ module _ (s : Settings) (m : Memory) (p : Process) where
   seen-up-to high w = visible (m .frames) (m .header .«frame_index_len») (upper high w)
 
   looks-in-order : (o : LookOp) → RefusedInOrder s (look-op o) m p
-  unfolding find-frame iter-latest-frames
+  unfolding find-frame iter-latest-frames frame-between nearest-frame
   looks-in-order (find-op page low high w) = record { rise = refl; number = behind _ p _ (of-find (ltb (upper high w) low) (find-in (blocks-for (seen-up-to high w)) (seen-up-to high w) (m .pages) (m .frames) (m .hash) page (lower low w) (upper high w))) }
   looks-in-order (list-op low high room-pages room-frames) = record { rise = refl; number = behind _ p _ refl }
+  looks-in-order (between-op page low high choice) = record { rise = refl; number = behind _ p _ (of-lookup (frame-chosen (entries m) page low high choice)) }
+  looks-in-order (nearest-op page to) = record { rise = refl; number = behind _ p _ (of-lookup (nearest (entries m) page to)) }
 
   index-in-order : (o : IndexOp) → RefusedInOrder s (index-op o) m p
   unfolding record-frame rollback-frames

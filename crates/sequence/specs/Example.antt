@@ -10,7 +10,7 @@ use Rattle.wal_types.specs.Memory.{Memory, Process, with-header, with-index, wi
 use Rattle.wal_types.specs.Fresh.{fresh-header}
 use Rattle.wal_types.specs.Call.{pair, Answer, refused, ok, value, stored, kept, frame-found, listed, slot-taken}
 use Rattle.index_find.specs.declared.find.Watermark.the-variants.{NoWatermark}
-use Rattle.sequence.specs.Sequence.{Settings, find-op, list-op, record-op, rollback-op, floor-op, limit-op, register-op, release-op, share-op, unshare-op, Op, look-op, index-op, commit-op, probe-op, slot-op, shared-op, World, Event, by, answer-of, next}
+use Rattle.sequence.specs.Sequence.{Settings, find-op, list-op, between-op, record-op, rollback-op, floor-op, limit-op, register-op, release-op, share-op, unshare-op, Op, look-op, index-op, commit-op, probe-op, slot-op, shared-op, World, Event, by, answer-of, next}
 use Rattle.sequence.specs.Hold.{direct, shared}
 use Rattle.sequence.specs.Statement.{at-now, Premises}
 
@@ -77,12 +77,15 @@ Held now = Premises small 1 fresh-world before begin during now direct 0 3
 abbrev pub answered : Event → Answer
 answered now = answer-of small now (at-now small 1 fresh-world before begin during now direct 0 3)
 
--- a lookup of page 7 and a list, both up to 3, by the reader; a floor and a copy-back limit by the writer, slot 0 busy
+-- a lookup of page 7, a list, and a search for page 7 by a choice, all up to 3, by the reader; a floor and a copy-back limit by the writer, slot 0 busy
 abbrev pub lookup : Event
 lookup = reader (look-op (find-op 7 1 3 NoWatermark))
 
 abbrev pub listing : Event
 listing = reader (look-op (list-op 1 3 8 8))
+
+abbrev pub search : ℕ → Event
+search choice = reader (look-op (between-op 7 1 3 choice))
 
 abbrev pub floor : Event
 floor = writer (probe-op (floor-op (0 ∷ 1 ∷ [])))
@@ -111,6 +114,9 @@ pub record Example : Type 0 where
   pub lookup-gives : answered lookup ≡ frame-found 3
   pub list-held : Held listing
   pub list-gives : answered listing ≡ listed (pair 7 3 ∷ pair 8199 2 ∷ [])
+  pub search-held : Held (search 0)
+  pub search-gives : answered (search 0) ≡ frame-found 1
+  pub other-choice-gives : answered (search 1) ≡ frame-found 3
   pub floor-held : Held floor
   pub floor-gives : answered floor ≡ frame-found 3
   pub limit-held : Held limit

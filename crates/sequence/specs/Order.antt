@@ -6,7 +6,7 @@ use Rattle.wal_types.specs.Memory.{Memory, Process}
 use Rattle.wal_types.specs.Refusal.{Test, lowest, rising}
 use Rattle.wal_types.specs.Call.{if-refused}
 use Rattle.header_locks.specs.Locks.{local-owner, acquire-tests, release-tests as unlock-tests}
-use Rattle.index_find.specs.Index.{index-tests}
+use Rattle.index_find.specs.Index.{index-tests, entries-tests}
 use Rattle.index_record.specs.Record.{record-tests}
 use Rattle.list_latest.specs.Latest.{list-tests}
 use Rattle.reader_register.specs.Register.{register-tests}
@@ -14,12 +14,14 @@ use Rattle.reader_moves.specs.Update.{update-tests, release-tests}
 use Rattle.reader_floor.specs.Floor.{probe-tests, db-file-reader}
 use Rattle.reader_probe.specs.Live.{looked-at}
 use Rattle.reader_shared.specs.Shared.{share-tests, unshare-tests}
-use Rattle.sequence.specs.Sequence.{Settings, LookOp, IndexOp, HeaderOp, ProbeOp, SlotOp, SharedOp, Op, perform, find-op, list-op, record-op, rollback-op, acquire-op, unlock-op, backfill-op, seq-op, epoch-op, floor-op, limit-op, db-reader-op, register-op, move-op, release-op, share-op, unshare-op, look-op, index-op, commit-op, header-op, probe-op, slot-op, shared-op}
+use Rattle.sequence.specs.Sequence.{Settings, LookOp, IndexOp, HeaderOp, ProbeOp, SlotOp, SharedOp, Op, perform, find-op, list-op, between-op, nearest-op, record-op, rollback-op, acquire-op, unlock-op, backfill-op, seq-op, epoch-op, floor-op, limit-op, db-reader-op, register-op, move-op, release-op, share-op, unshare-op, look-op, index-op, commit-op, header-op, probe-op, slot-op, shared-op}
 
 -- Each call's list of tests, by families. Publishes and bumps are never refused.
 abbrev pub look-tests : Settings → LookOp → Memory → Process → List Test
 look-tests s (find-op page low high w) m p = index-tests (s .capacity) (s .max-blocks) m
 look-tests s (list-op low high room-pages room-frames) m p = list-tests (s .capacity) (s .max-blocks) low high room-pages room-frames m
+look-tests s (between-op page low high choice) m p = entries-tests (s .capacity) (s .max-blocks) m
+look-tests s (nearest-op page to) m p = entries-tests (s .capacity) (s .max-blocks) m
 
 abbrev pub on-index-tests : Settings → IndexOp → Memory → Process → List Test
 on-index-tests s (record-op page frame grow) m p = record-tests (s .capacity) (s .max-blocks) page frame grow m

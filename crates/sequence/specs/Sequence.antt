@@ -15,6 +15,8 @@ use Rattle.index_record.specs.Record.{record-frame}
 use Rattle.index_record.specs.Rollback.{rollback-frames}
 use Rattle.index_find.specs.Find.{find-frame}
 use Rattle.list_latest.specs.Latest.{iter-latest-frames}
+use Rattle.index_scan.specs.Between.{frame-between}
+use Rattle.index_scan.specs.Nearest.{nearest-frame}
 use Rattle.reader_register.specs.Register.{register-reader}
 use Rattle.reader_moves.specs.Update.{update-reader, unregister-reader}
 use Rattle.reader_floor.specs.Floor.{min-active-reader-frame, has-active-db-file-reader}
@@ -29,16 +31,21 @@ pub record Settings : Type 0 where
   pub mode : SharedWalOwnershipMode
 
 -- The calls, in families by what a call may change, with what each is given besides settings and memory: cards, growth answers
--- and the lengths of output lists are the host's. Each family is followed by what its calls mean.
+-- and the lengths of output lists are the host's; a search's choice is nobody's, and may be any. Each family is followed by what
+-- its calls mean.
 
 -- Calls that only look: they change nothing.
 pub data LookOp : Type 0 where
   find-op : (page low high : ℕ) (w : Watermark) → LookOp
   list-op : (low high room-pages room-frames : ℕ) → LookOp
+  between-op : (page low high choice : ℕ) → LookOp
+  nearest-op : (page to : ℕ) → LookOp
 
 abbrev pub look : Settings → LookOp → Call
 look s (find-op page low high w) = find-frame (s .capacity) (s .max-blocks) page low high w
 look s (list-op low high room-pages room-frames) = iter-latest-frames (s .capacity) (s .max-blocks) low high room-pages room-frames
+look s (between-op page low high choice) = frame-between (s .capacity) (s .max-blocks) page low high choice
+look s (nearest-op page to) = nearest-frame (s .capacity) (s .max-blocks) page to
 
 -- Calls on the index.
 pub data IndexOp : Type 0 where

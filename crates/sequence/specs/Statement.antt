@@ -7,7 +7,8 @@ use Rattle.index_find.specs.declared.find.Watermark.the-variants.{NoWatermark}
 use Rattle.index_find.specs.Find.{lookup-answer}
 use Rattle.index_grown.specs.Entries.{greatest}
 use Rattle.index_grown.specs.Listed.{IsListOf}
-use Rattle.sequence.specs.Sequence.{Settings, find-op, list-op, floor-op, limit-op, Op, look-op, probe-op, World, Event, answer-of, next, run, FreshWorld, Throughout}
+use Rattle.index_scan.specs.Between.{frame-chosen}
+use Rattle.sequence.specs.Sequence.{Settings, find-op, list-op, between-op, floor-op, limit-op, Op, look-op, probe-op, World, Event, answer-of, next, run, FreshWorld, Throughout}
 use Rattle.sequence.specs.Book.{Book, empty-book, book-after, InPairs}
 use Rattle.sequence.specs.Hold.{holders-after, Kind, Begins, Lasts, KeepsAbove, LeavesSlot}
 
@@ -52,6 +53,9 @@ module _ (s : Settings) (start : ℕ) (fresh : World) (before : List Event) (beg
     pub lookup-owed : (page low high : ℕ) → op ≡ look-op (find-op page low high NoWatermark) → high ≤ m → accepted a → a ≡ lookup-answer (greatest (book .pairs) page low high)
     -- "a list gives each page that has such a frame, and no other, once, with the greatest, by rising page"
     pub list-owed : (low high room-pages room-frames : ℕ) → op ≡ look-op (list-op low high room-pages room-frames) → high ≤ m → accepted a → (l : List Pair) × (a ≡ listed l) × IsListOf (book .pairs) low high l
+    -- a search between two frames up to m, too, gives by the book what its choice gives. Nothing is owed of a nearest frame: one
+    -- above m may be nearer.
+    pub between-owed : (page low high choice : ℕ) → op ≡ look-op (between-op page low high choice) → high ≤ m → accepted a → a ≡ lookup-answer (frame-chosen (book .pairs) page low high choice)
     -- "and each floor during the hold, unless refused, exists and is at most m";
     pub floor-owed : (bytes : List ℕ) → op ≡ probe-op (floor-op bytes) → accepted a → (f : ℕ) × (a ≡ frame-found f) × (f ≤ m)
     -- a copy-back limit, which is at most the floor, then is at most m too

@@ -5,7 +5,7 @@ use crate::machine::{load, processor};
 use crate::measure::{self, Measured};
 use crate::pages::{of_hot, Dice};
 use crate::readers::{Table as Slots, Work as ReaderWork};
-use crate::work::{Fill, Find, List, Rollbacks, ALL};
+use crate::work::{Fill, Find, List, Rollbacks, Search, Searched, ALL};
 
 pub const ROUNDS: usize = 21;
 
@@ -85,10 +85,12 @@ enum Call {
     Lookup,
     List,
     Rollback,
+    Between,
+    Nearest,
 }
 
 impl Call {
-    const ALL: [Self; 4] = [Self::Record, Self::Lookup, Self::List, Self::Rollback];
+    const ALL: [Self; 6] = [Self::Record, Self::Lookup, Self::List, Self::Rollback, Self::Between, Self::Nearest];
 
     fn words(self) -> &'static str {
         match self {
@@ -96,6 +98,8 @@ impl Call {
             Self::Lookup => "lookup of a present page",
             Self::List => "list",
             Self::Rollback => "rollback by 1 entry",
+            Self::Between => "frame between 1 and 1",
+            Self::Nearest => "nearest frame",
         }
     }
 
@@ -110,8 +114,17 @@ impl Call {
             }
             Self::List => measure::index(name, rounds, &List { entries, min: 1, times: (ALL / count).min(32) }),
             Self::Rollback => measure::index(name, rounds, &Rollbacks::by_one(entries, pages.rollbacks())),
+            // From the last entry down to the first.
+            Self::Between => search(name, rounds, entries, Searched::Between { min: 1, max: 1 }),
+            Self::Nearest => search(name, rounds, entries, Searched::Nearest { to: count / 2 }),
         }
     }
+}
+
+/// Searches for present pages, which look at as many entries in all whatever the size.
+fn search(name: &str, rounds: usize, entries: Vec<u64>, kind: Searched) -> Measured {
+    let wanted = Dice(6).some_of(&entries, 4_000_000 / entries.len());
+    measure::searches(name, rounds, &Search { entries, wanted, kind })
 }
 
 /// A call on readers: its words, how many of so many slots are live, and the work.
@@ -148,7 +161,7 @@ fn points<T: Copy + Into<u64>>(sizes: &[T], rounds: usize, measured: impl Fn(T, 
 
 fn point(size: u64, measured: Measured) -> Point {
     let Measured { port, rust, plain } = measured;
-    Point { size, sides: [Some(port.median()), Some(rust.median()), plain.map(|plain| plain.median())] }
+    Point { size, sides: [Some(port), rust, plain].map(|times| times.map(|times| times.median())) }
 }
 
 /// Prints a panel's rows.

@@ -2,12 +2,15 @@
 
 use crate::pages::{absent_at_empty_homes, absent_at_hot_homes, of_hot, sharing_homes, Dice};
 use crate::table::Table;
-use crate::work::{Fill, Find, Header, List, RollbackAndRecord, Rollbacks, ALL, BLOCK};
+use crate::work::{Fill, Find, Header, List, RollbackAndRecord, Rollbacks, Search, Searched, ALL, BLOCK};
 
 pub fn all(mut table: Table) {
     records(&mut table);
     lookups(&mut table);
     lists(&mut table);
+    for (entries, blocks) in [(BLOCK, "1 block"), (ALL, "16 blocks")] {
+        searches(&mut table, entries, blocks);
+    }
     for hot in [1, 10, 100] {
         hot_pages(&mut table, hot);
     }
@@ -76,6 +79,33 @@ fn lists(table: &mut Table) {
     table.line("list, 10 entries", list(&all[..10], 1, 200));
     table.line("list, 10 entries, pages of 64 bits", list(&large[..10], 1, 200));
     table.line("list, 1 entry", list(&all[..1], 1, 200));
+}
+
+/// Searches over the entries. They look at all of them for an absent page, and for the
+/// nearest frame of any.
+fn searches(table: &mut Table, count: u64, blocks: &str) {
+    /// How many entries a run looks at, where it looks at all.
+    const LOOKED_AT: u64 = 4_000_000;
+    let mut dice = Dice(7);
+    let (distinct, absent) = (dice.shuffled(1, count), dice.shuffled(count + 1, count));
+    let (one, hundred) = (vec![1; count as usize], of_hot(&mut dice, 100, count));
+    let last = &distinct[distinct.len() - 50..];
+    let middle = count / 2;
+    let (all, older) = (Searched::Between { min: 0, max: u64::MAX }, Searched::Between { min: 1, max: middle });
+    let nearest = Searched::Nearest { to: middle };
+    let whole = (LOOKED_AT / count) as usize;
+    let mut line = |name: &str, entries: &[u64], of: &[u64], times: usize, kind| {
+        let search = Search { entries: entries.to_vec(), wanted: dice.some_of(of, times), kind };
+        table.search_line(&format!("{name}, {blocks}"), search);
+    };
+    line("frame between, absent page", &distinct, &absent, whole, all);
+    line("frame between, page of the last 50 entries", &distinct, last, 5000, all);
+    line("frame between, 100 hot pages", &hundred, &hundred, 5000, all);
+    line("frame between, 100 hot pages, older frames", &hundred, &hundred, whole, older);
+    line("nearest frame, absent page", &distinct, &absent, whole, nearest);
+    line("nearest frame, page of the last 50 entries", &distinct, last, whole, nearest);
+    line("nearest frame, 100 hot pages", &hundred, &hundred, whole, nearest);
+    line("nearest frame, 1 hot page", &one, &one, whole, nearest);
 }
 
 /// A few pages that are written over and over. Of such a page's entries in a block each stands a cell behind the one

@@ -2,7 +2,7 @@
 
 use crate::plain::Plain;
 use crate::sides::{Port, Rust, RustWithFastHasher};
-use crate::work::{Header, Work};
+use crate::work::{Header, Search, Work};
 use crate::{clock, readers};
 use std::hint::black_box;
 
@@ -29,10 +29,10 @@ impl Times {
     }
 }
 
-/// What the sides took. Of the Rust's two hashers the faster one counts.
+/// What the sides took, those that have the calls. Of the Rust's two hashers the faster one counts.
 pub struct Measured {
     pub port: Times,
-    pub rust: Times,
+    pub rust: Option<Times>,
     pub plain: Option<Times>,
 }
 
@@ -40,9 +40,10 @@ impl Measured {
     /// Takes further rounds of the same line in.
     pub fn add(&mut self, more: Self) {
         self.port.0.extend(more.port.0);
-        self.rust.0.extend(more.rust.0);
-        if let (Some(plain), Some(more)) = (&mut self.plain, more.plain) {
-            plain.0.extend(more.0);
+        for (side, more) in [(&mut self.rust, more.rust), (&mut self.plain, more.plain)] {
+            if let (Some(side), Some(more)) = (side, more) {
+                side.0.extend(more.0);
+            }
         }
     }
 }
@@ -50,10 +51,9 @@ impl Measured {
 /// A side's turn: the line, once.
 type Turn<'a> = &'a mut dyn FnMut(&mut Times) -> u64;
 
-/// Runs the sides in turns: the port, the Rust, the Rust with a fast hasher and, where there is one, the plain C. Who comes
-/// first changes from round to round. The sums of their answers must agree.
-fn rounds<const N: usize>(name: &str, rounds: usize, sides: [Turn; N]) -> Measured {
-    let mut times = vec![Times::default(); N];
+/// Runs the sides in turns. Who comes first changes from round to round. The sums of their answers must agree.
+fn rounds<const N: usize>(name: &str, rounds: usize, sides: [Turn; N]) -> [Times; N] {
+    let mut times = [const { Times(Vec::new()) }; N];
     for round in 0..=rounds {
         let mut sums = [0; N];
         for turn in 0..N {
@@ -66,10 +66,12 @@ fn rounds<const N: usize>(name: &str, rounds: usize, sides: [Turn; N]) -> Measur
             times.iter_mut().for_each(|t| t.0.clear());
         }
     }
-    let mut times = times.into_iter();
-    let mut next = || times.next();
-    let (port, rust, fast) = (next().expect("the port"), next().expect("the Rust"), next().expect("the other hasher"));
-    Measured { port, rust: if rust.median() <= fast.median() { rust } else { fast }, plain: next() }
+    times
+}
+
+/// The Rust with the faster of its two hashers.
+fn faster(rust: Times, fast: Times) -> Option<Times> {
+    Some(if rust.median() <= fast.median() { rust } else { fast })
 }
 
 /// Calls on the index, on all sides. The port and the plain C must leave the same cells.
@@ -88,9 +90,25 @@ pub fn index(name: &str, count: usize, work: &impl Work) -> Measured {
             }
         };
     }
-    let measured = rounds(name, count, [turn!(port), turn!(rust), turn!(fast), turn!(plain)]);
+    let [of_port, of_rust, of_fast, of_plain] =
+        rounds(name, count, [turn!(port), turn!(rust), turn!(fast), turn!(plain)]);
     assert!(port.lent == *plain.lent(), "{name}: the port and the plain C leave different cells");
-    measured
+    Measured { port: of_port, rust: faster(of_rust, of_fast), plain: Some(of_plain) }
+}
+
+/// Searches over the entries, on the port and on the plain C, which must leave the same cells.
+pub fn searches(name: &str, count: usize, work: &Search) -> Measured {
+    let (mut port, mut plain) = (Port::new(), Plain::new());
+    work.prepare(&mut port);
+    work.prepare(&mut plain);
+    macro_rules! turn {
+        ($side:ident) => {
+            &mut |times| times.of(work.times(), || work.run(&mut $side))
+        };
+    }
+    let [of_port, of_plain] = rounds(name, count, [turn!(port), turn!(plain)]);
+    assert!(port.lent == *plain.lent(), "{name}: the port and the plain C leave different cells");
+    Measured { port: of_port, rust: None, plain: Some(of_plain) }
 }
 
 /// Calls on the header.
@@ -101,7 +119,8 @@ pub fn header(name: &str, count: usize, work: Header) -> Measured {
             &mut |times| times.of(Header::TIMES, || work.run(&mut $side))
         };
     }
-    rounds(name, count, [turn!(port), turn!(rust), turn!(fast)])
+    let [port, rust, fast] = rounds(name, count, [turn!(port), turn!(rust), turn!(fast)]);
+    Measured { port, rust: faster(rust, fast), plain: None }
 }
 
 /// Calls on readers.
@@ -118,5 +137,6 @@ pub fn readers(name: &str, count: usize, table: &readers::Table, work: readers::
             &mut |times| times.of(readers::Work::TIMES, || work.run(&mut $side))
         };
     }
-    rounds(name, count, [turn!(port), turn!(rust), turn!(fast)])
+    let [port, rust, fast] = rounds(name, count, [turn!(port), turn!(rust), turn!(fast)]);
+    Measured { port, rust: faster(rust, fast), plain: None }
 }

@@ -1,13 +1,20 @@
-//! The plain C beside which the port is measured (plain.c).
+//! The plain C beside which the port is measured (plain.c and plain_searches.c).
 #![allow(unsafe_code)]
 
-use crate::sides::{Index, Lent, SETTINGS};
+use crate::sides::{Index, Lent, Search, SETTINGS};
 use wal_coordination_sys::Header;
 
 #[repr(C)]
 struct Found {
     found: u64,
     frame: u64,
+}
+
+impl Found {
+    #[inline]
+    fn frame(self) -> Option<u64> {
+        (self.found == 1).then_some(self.frame)
+    }
 }
 
 // The header's layout is C's: rust/sys asserts it.
@@ -26,6 +33,15 @@ extern "C" {
         has_watermark: u32,
         watermark: u64,
     ) -> Found;
+    fn plain_between(
+        header: *const Header,
+        pages: *const u64,
+        frames: *const u64,
+        page: u64,
+        min_frame: u64,
+        max_frame: u64,
+    ) -> Found;
+    fn plain_nearest(header: *const Header, pages: *const u64, frames: *const u64, page: u64, to_frame: u64) -> Found;
     fn plain_list(
         header: *const Header,
         pages: *const u64,
@@ -86,9 +102,8 @@ impl Index for Plain {
         let (header, has_watermark) = (&memory.header, watermark.is_some().into());
         let (pages, frames, hash) = (memory.pages.as_ptr(), memory.frames.as_ptr(), memory.hash.as_ptr());
         // SAFETY: It only reads, and the cells are those of `record`.
-        let Found { found, frame } =
-            unsafe { plain_find(header, pages, frames, hash, page, min, max, has_watermark, watermark.unwrap_or(0)) };
-        (found == 1).then_some(frame)
+        unsafe { plain_find(header, pages, frames, hash, page, min, max, has_watermark, watermark.unwrap_or(0)) }
+            .frame()
     }
 
     #[inline]
@@ -101,5 +116,23 @@ impl Index for Plain {
             plain_list(&memory.header, pages, frames, min, max, out_pages.as_mut_ptr(), out_frames.as_mut_ptr())
         };
         (count, out_frames[..count as usize].iter().sum())
+    }
+}
+
+impl Search for Plain {
+    #[inline]
+    fn between(&mut self, page: u64, min: u64, max: u64) -> Option<u64> {
+        let memory = &self.lent.memory;
+        let (pages, frames) = (memory.pages.as_ptr(), memory.frames.as_ptr());
+        // SAFETY: It only reads, and the length is that of `record`.
+        unsafe { plain_between(&memory.header, pages, frames, page, min, max) }.frame()
+    }
+
+    #[inline]
+    fn nearest(&mut self, page: u64, to: u64) -> Option<u64> {
+        let memory = &self.lent.memory;
+        let (pages, frames) = (memory.pages.as_ptr(), memory.frames.as_ptr());
+        // SAFETY: It only reads, and the length is that of `record`.
+        unsafe { plain_nearest(&memory.header, pages, frames, page, to) }.frame()
     }
 }

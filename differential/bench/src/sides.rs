@@ -15,6 +15,12 @@ pub trait Index {
     fn list(&mut self, min: u64, max: u64) -> (u64, u64);
 }
 
+/// Searches over the entries, which the Rust does not have.
+pub trait Search {
+    fn between(&mut self, page: u64, min: u64, max: u64) -> Option<u64>;
+    fn nearest(&mut self, page: u64, to: u64) -> Option<u64>;
+}
+
 /// The header.
 pub trait Header {
     fn commit(&mut self, max_frame: u64, transaction_count: u64);
@@ -99,6 +105,22 @@ impl Index for Port {
             sys::iter_latest_frames(index(memory).to_read(), min, max, out_pages, out_frames);
         assert_eq!(refusal, 0);
         (count, out_frames[..count as usize].iter().sum())
+    }
+}
+
+impl Search for Port {
+    #[inline]
+    fn between(&mut self, page: u64, min: u64, max: u64) -> Option<u64> {
+        let reply = sys::frame_between(index(&mut self.lent.memory).to_read(), page, min, max);
+        assert_eq!(reply.refusal, 0);
+        (reply.found == 1).then_some(reply.frame)
+    }
+
+    #[inline]
+    fn nearest(&mut self, page: u64, to: u64) -> Option<u64> {
+        let reply = sys::nearest_frame(index(&mut self.lent.memory).to_read(), page, to);
+        assert_eq!(reply.refusal, 0);
+        (reply.found == 1).then_some(reply.frame)
     }
 }
 

@@ -158,6 +158,42 @@ impl Work for List {
     }
 }
 
+/// Searches over the entries for one page after the other.
+pub struct Search {
+    pub entries: Vec<u64>,
+    pub wanted: Vec<u64>,
+    pub kind: Searched,
+}
+
+#[derive(Clone, Copy)]
+pub enum Searched {
+    Between { min: u64, max: u64 },
+    Nearest { to: u64 },
+}
+
+impl Search {
+    pub fn prepare(&self, side: &mut impl Index) {
+        fill(side, &self.entries);
+    }
+
+    /// What is timed; the sum of the answers. Which frame between the bounds is given is not decided: such answers are
+    /// counted, and each must be one.
+    pub fn run(&self, side: &mut impl sides::Search) -> u64 {
+        let wanted = self.wanted.iter();
+        match self.kind {
+            Searched::Between { min, max } => {
+                let counted = |frame: u64| u64::from(min <= frame && frame <= max);
+                wanted.map(|&page| side.between(page, min, max).map_or(0, counted)).sum()
+            }
+            Searched::Nearest { to } => wanted.map(|&page| side.nearest(page, to).unwrap_or(0)).sum(),
+        }
+    }
+
+    pub fn times(&self) -> u64 {
+        self.wanted.len() as u64
+    }
+}
+
 /// Calls on the header alone.
 #[derive(Clone, Copy)]
 pub enum Header {

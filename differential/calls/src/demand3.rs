@@ -1,5 +1,6 @@
 //! Demand 3 at run time: while a hold lasts, each lookup, list, floor and copy-back limit must answer as the demand
-//! says. It is fed calls and answers, and sees of the memory only the slots of holds.
+//! says, and so must a search for a frame between two frames up to the mark. It is fed calls and answers, and sees of the
+//! memory only the slots of holds.
 //!
 //! That another process changes a hold's slot ends what is owed only where document 01 lets the call do so. A port that
 //! does it elsewhere has broken the premise itself, and still owes.
@@ -12,6 +13,7 @@ use std::collections::{BTreeMap, HashMap, HashSet};
 #[derive(Clone, Copy, Debug, Default, PartialEq, Eq)]
 pub struct Checked {
     pub lookups: u64,
+    pub searches: u64,
     pub lists: u64,
     pub floors: u64,
     pub limits: u64,
@@ -20,6 +22,7 @@ pub struct Checked {
 impl Checked {
     pub fn add(&mut self, other: &Self) {
         self.lookups += other.lookups;
+        self.searches += other.searches;
         self.lists += other.lists;
         self.floors += other.floors;
         self.limits += other.limits;
@@ -100,18 +103,23 @@ impl Hold {
         latest
     }
 
-    fn greatest(&self, page: u64, min: u64, max: u64) -> Option<u64> {
-        let fitting = |pair: &&Pair| pair.0 == page && (min..=max).contains(&pair.1);
-        self.pairs.iter().filter(fitting).map(|(_, frame)| *frame).max()
+    /// The page's frames within the bounds.
+    fn between(&self, page: u64, min: u64, max: u64) -> impl Iterator<Item = u64> + '_ {
+        let fitting = move |pair: &&Pair| pair.0 == page && (min..=max).contains(&pair.1);
+        self.pairs.iter().filter(fitting).map(|(_, frame)| *frame)
     }
 
     /// Whether the answer is what the hold is owed, else what that is. `None`: it is owed nothing.
     fn owed(&self, call: &Call, answer: &Answer) -> Option<Result<(), String>> {
-        let exactly = |owed: Answer| if *answer == owed { Ok(()) } else { Err(owed.to_string()) };
+        let exactly = |owed: Answer| if owed.allows(answer) { Ok(()) } else { Err(owed.to_string()) };
         let at_most = |good| if good { Ok(()) } else { Err(format!("at most {}", self.mark)) };
         match *call {
             Call::FindFrame { page, min, max, watermark: None, .. } if max <= self.mark => {
-                Some(exactly(self.greatest(page, min, max).map_or(Answer::Nothing, Answer::Frame)))
+                Some(exactly(self.between(page, min, max).max().map_or(Answer::Nothing, Answer::Frame)))
+            }
+            // Any of them; none exactly if there is none.
+            Call::FrameBetween { page, min, max } if max <= self.mark => {
+                Some(exactly(Answer::one_of(self.between(page, min, max))))
             }
             Call::IterLatestFrames { min, max, .. } if max <= self.mark => {
                 Some(exactly(Answer::List(self.latest(min, max).into_iter().collect())))
@@ -245,6 +253,7 @@ impl Demand3 {
         }
         let count = match call {
             Call::FindFrame { .. } => &mut self.checked.lookups,
+            Call::FrameBetween { .. } => &mut self.checked.searches,
             Call::IterLatestFrames { .. } => &mut self.checked.lists,
             Call::CopyBackLimit { .. } => &mut self.checked.limits,
             _ => &mut self.checked.floors,
@@ -305,9 +314,18 @@ mod tests {
                 ("limit 1 00", Answer::Limit(2), HELD),
                 ("rollback 1 2", Answer::Kept(2), HELD),
                 ("find 1 7 2 2 -", Answer::Frame(2), HELD),
+                ("between 1 7 0 2", Answer::Frame(1), HELD),
+                ("between 1 7 1 2", Answer::Frame(2), HELD), // which one is undecided
+                ("between 0 7 2 2", Answer::Frame(2), HELD),
+                ("between 0 7 2 1", Answer::Nothing, HELD),
+                ("between 1 8 0 2", Answer::Nothing, HELD),
+                ("between 1 7 0 2", Answer::Refused(1), HELD),
+                ("record 1 7 3 0", Answer::Stored, HELD),
+                ("between 1 7 0 3", Answer::Frame(3), HELD), // above the mark
+                ("nearest 1 7 2", Answer::Frame(9), HELD),   // nothing is owed of it
             ],
         );
-        assert_eq!((result, checked), (Ok(()), Checked { lookups: 3, lists: 1, floors: 1, limits: 1 }));
+        assert_eq!((result, checked), (Ok(()), Checked { lookups: 3, searches: 5, lists: 1, floors: 1, limits: 1 }));
     }
 
     #[test]
@@ -316,6 +334,12 @@ mod tests {
             ("find 1 7 0 2 -", Answer::Frame(1)),
             ("find 1 7 0 2 -", Answer::Nothing),
             ("find 1 8 0 2 -", Answer::Frame(2)),
+            ("between 1 7 0 2", Answer::Nothing),
+            ("between 1 7 0 2", Answer::Frame(3)),
+            ("between 1 7 1 1", Answer::Frame(2)),
+            ("between 1 7 2 2", Answer::Nothing),
+            ("between 1 8 0 2", Answer::Frame(2)),
+            ("between 1 7 2 1", Answer::Frame(2)),
             ("list 1 0 2 9", Answer::List(vec![])),
             ("list 1 0 2 9", Answer::List(vec![(7, 2), (7, 2)])),
             ("floor 1 00", Answer::Nothing),

@@ -1,4 +1,4 @@
-//! All short sequences of calls on the index, from openings at its edges.
+//! All short sequences of calls on the index, from openings at its edges, and searches over the entries on the way.
 
 use crate::memory::{Memory, Settings, SharedCell, BLOCK_ENTRIES, BLOCK_HASH_CELLS, LINUX_OFD};
 use crate::random::{shortest, Found};
@@ -24,8 +24,9 @@ struct Opening {
 pub struct Tally {
     pub opening: &'static str,
     pub sequences: u64,
-    /// Those that both sides have, after the opening's.
+    /// Those that both sides have, after the opening's, the searches too.
     pub calls: u64,
+    pub searches: u64,
 }
 
 /// Makes every sequence of up to `length` calls from every opening, and compares every cell after each call.
@@ -35,11 +36,12 @@ pub fn run(sides: Sides, length: usize, mut told: impl FnMut(&Tally)) -> Result<
         open(&mut session, &opening, sides)?;
         let opened = session.calls;
         let length = length.saturating_sub(opening.shorter);
-        let mut tree = Tree { sides, session, opening: &opening, calls: calls(opening.frame), sequences: 0 };
+        let (calls, searches) = (calls(opening.frame), searches(opening.frame));
+        let mut tree = Tree { sides, session, opening: &opening, calls, searches, sequences: 0, searched: 0 };
         let mut kept = vec![Memory::default(); length];
         tree.grow(&mut kept, &mut Vec::new())?;
-        let calls = tree.session.calls - opened;
-        told(&Tally { opening: opening.name, sequences: tree.sequences, calls });
+        let Tree { session, sequences, searched: searches, .. } = tree;
+        told(&Tally { opening: opening.name, sequences, calls: session.calls - opened, searches });
     }
     Ok(())
 }
@@ -60,7 +62,9 @@ struct Tree<'a> {
     session: Session<'a>,
     opening: &'a Opening,
     calls: Vec<Line>,
+    searches: Vec<Line>,
     sequences: u64,
+    searched: u64,
 }
 
 impl Tree<'_> {
@@ -68,12 +72,14 @@ impl Tree<'_> {
     fn grow(&mut self, kept: &mut [Memory], path: &mut Vec<usize>) -> Result<(), Found> {
         let Some((here, further)) = kept.split_first_mut() else { return Ok(()) };
         self.session.keep(here);
+        if path.last().is_none_or(|&call| !only_reads(&self.calls[call])) {
+            self.search(path)?;
+        }
         for call in 0..self.calls.len() {
             path.push(call);
             self.sequences += 1;
             if self.session.step(&self.calls[call]).is_err() {
-                let calls = path.iter().map(|&call| self.calls[call].clone());
-                return Err(shortest(self.sides, self.opening.lines.iter().cloned().chain(calls).collect()));
+                return Err(self.found(path, &[]));
             }
             self.grow(further, path)?;
             self.session.put_back(here);
@@ -81,6 +87,30 @@ impl Tree<'_> {
         }
         Ok(())
     }
+
+    /// Every search, on the index that the path leaves. None of them changes a cell, so that they need no sequences of
+    /// their own, and the cells are compared after the last one.
+    fn search(&mut self, path: &[usize]) -> Result<(), Found> {
+        let last = self.searches.len() - 1;
+        for search in 0..=last {
+            self.session.cells = if search == last { Cells::All } else { Cells::None };
+            if self.session.step(&self.searches[search]).is_err() {
+                return Err(self.found(path, &self.searches[..=search]));
+            }
+            self.searched += 1;
+        }
+        Ok(())
+    }
+
+    /// The calls of the path after the opening, and these lines after them, show a difference.
+    fn found(&self, path: &[usize], after: &[Line]) -> Found {
+        let calls = path.iter().map(|&call| &self.calls[call]);
+        shortest(self.sides, self.opening.lines.iter().chain(calls).chain(after).cloned().collect())
+    }
+}
+
+fn only_reads(line: &Line) -> bool {
+    matches!(line, Line::Call { call, .. } if call.only_reads())
 }
 
 fn line(call: Call) -> Line {
@@ -114,6 +144,17 @@ fn calls(last: u64) -> Vec<Line> {
         list(0, u64::MAX),
         list(last + 2, last + 3),
     ]
+}
+
+/// The searches over the entries for each page of the calls, with all bounds from the last frame of the opening on.
+fn searches(last: u64) -> Vec<Line> {
+    let frames = last..=last + 3;
+    let bounds = frames.clone().flat_map(|min| frames.clone().map(move |max| (min, max)));
+    let of_page = |page| {
+        let between = bounds.clone().map(move |(min, max)| Call::FrameBetween { page, min, max });
+        between.chain((last..=last + 4).map(move |to| Call::NearestFrame { page, to }))
+    };
+    [PAGE, SAME_HOME, LAST_HOME].into_iter().flat_map(of_page).map(line).collect()
 }
 
 fn openings() -> Vec<Opening> {

@@ -7,6 +7,7 @@
 //! - `refusals`: document 01's table of refusals, and what the Rust must do with a refused call.
 //! - `rust_did`: what the Rust did with one, in words.
 //! - `looked`: a second reading of a lookup, which counts the hash cells that it looks at.
+//! - `entry_searches`: a second reading of the searches over the entries, which the Rust does not have.
 //! - `demand3`: what a hold is owed, checked at run time.
 //! - `session`: one script on one side or on both, with every cell compared after each call.
 //! - `random`: scripts of its own making, and the shortest one that shows a difference; cases of one call each; inputs of
@@ -17,6 +18,7 @@
 
 pub mod columns;
 pub mod demand3;
+pub mod entry_searches;
 pub mod exhaustive;
 mod looked;
 pub mod memory;

@@ -129,7 +129,7 @@ fn fails(sides: Sides, script: &[Line]) -> Option<Box<Difference>> {
 pub enum Family {
     /// Publishes, bumps and the two locks.
     Header,
-    /// Record, rollback, lookup and list.
+    /// Record, rollback, lookup, search and list.
     Index,
     /// Slots, floor and copy-back limit.
     Readers,

@@ -1,5 +1,5 @@
-//! Document 01's table of refusals, read for this tool alone: neither the port nor the Rust is asked. And what the Rust
-//! must do with a refused call.
+//! Document 01's table of refusals, with document 02's calls, read for this tool alone: neither the port nor the Rust is
+//! asked. And what the Rust must do with a refused call.
 
 use crate::memory::{Settings, View, BLOCK_ENTRIES, BLOCK_HASH_CELLS, LINUX_OFD, PROCESS_SCOPED_FCNTL, UNUSED};
 use crate::script::{Call, Part};
@@ -20,9 +20,13 @@ pub struct Asked<'a> {
 /// The lowest number that applies, if any. `pairs` gives the length of a list.
 pub fn refusal(asked: &Asked, pairs: impl FnOnce(u64, u64) -> u64) -> Option<u32> {
     match *asked.call {
-        Call::RecordFrame { frame, grow, .. } => asked.index().or_else(|| asked.record(frame, grow)),
-        Call::RollbackFrames { .. } | Call::FindFrame { .. } => asked.index(),
-        Call::IterLatestFrames { min, max, room } => asked.index().or_else(|| (pairs(min, max) > room).then_some(5)),
+        Call::RecordFrame { frame, grow, .. } => asked.index(&ENTRIES_AND_HASH).or_else(|| asked.record(frame, grow)),
+        Call::RollbackFrames { .. } | Call::FindFrame { .. } => asked.index(&ENTRIES_AND_HASH),
+        // Document 02: they are not lent the hash.
+        Call::FrameBetween { .. } | Call::NearestFrame { .. } => asked.index(&ENTRIES),
+        Call::IterLatestFrames { min, max, room } => {
+            asked.index(&ENTRIES_AND_HASH).or_else(|| (pairs(min, max) > room).then_some(5))
+        }
         Call::RegisterReader { owner, mark, ref card } => {
             asked.readers(&SLOTS_AND_OWN).or_else(|| asked.offer(owner, mark)).or_else(|| asked.card(card))
         }
@@ -79,6 +83,7 @@ pub enum RustOnRefusal {
 pub fn rust_on_refusal(asked: &Asked, number: u32) -> RustOnRefusal {
     let shared_release = matches!(asked.call, Call::UnregisterReaderForSnapshot { .. });
     match number {
+        _ if asked.call.is_entry_search() => RustOnRefusal::NotAsked("it has no such call"),
         1 => asked.rust_on_bad_settings(),
         2 => RustOnRefusal::NotAsked("it maps its own memory"),
         5 => RustOnRefusal::NotAsked("it returns a vector"),
@@ -90,6 +95,8 @@ pub fn rust_on_refusal(asked: &Asked, number: u32) -> RustOnRefusal {
     }
 }
 
+const ENTRIES: [Part; 2] = [Part::Pages, Part::Frames];
+const ENTRIES_AND_HASH: [Part; 3] = [Part::Pages, Part::Frames, Part::Hash];
 const SLOTS_AND_OWN: [Part; 4] = [Part::Bitmap, Part::SlotFrames, Part::SlotOwners, Part::LocalOwners];
 const SLOTS_OWN_AND_REGISTRY: [Part; 5] =
     [Part::Bitmap, Part::SlotFrames, Part::SlotOwners, Part::LocalOwners, Part::Registry];
@@ -122,8 +129,8 @@ impl Asked<'_> {
         self.lent.of(part, cells)
     }
 
-    /// 1 and 2 of a call on the index.
-    fn index(&self) -> Option<u32> {
+    /// 1 and 2 of a call on the index that uses these parts.
+    fn index(&self, parts: &[Part]) -> Option<u32> {
         let header = self.memory.header();
         let (len, blocks) = (header.frame_index_len, header.frame_index_blocks);
         if !self.settings.good_capacity()
@@ -134,11 +141,9 @@ impl Asked<'_> {
         {
             return Some(1);
         }
-        let blocks = self.settings.max_blocks as usize;
-        let short = self.lent(Part::Pages) < BLOCK_ENTRIES * blocks
-            || self.lent(Part::Frames) < BLOCK_ENTRIES * blocks
-            || self.lent(Part::Hash) < BLOCK_HASH_CELLS * blocks;
-        short.then_some(2)
+        let of_block = |part: &Part| if *part == Part::Hash { BLOCK_HASH_CELLS } else { BLOCK_ENTRIES };
+        let needed = |part: &Part| of_block(part) * self.settings.max_blocks as usize;
+        parts.iter().any(|part| self.lent(*part) < needed(part)).then_some(2)
     }
 
     /// 3 and 4: only a record that is not dropped can meet them.
@@ -422,6 +427,41 @@ mod tests {
         index.0.max_blocks = 2;
         HeaderCell::Len.set(&mut index.1.header, 10);
         assert_eq!(number("find 0 1 1 1 -", &index), Some(2));
+    }
+
+    #[test]
+    fn a_search_needs_settings_pages_and_frames_but_no_hash() {
+        let (mut settings, mut memory) = memory(LINUX_OFD);
+        settings.mode = 2;
+        settings.slots = 0;
+        let number = |settings: &Settings, memory: &Memory, part: Part, count| {
+            let numbers = ["between 1 7 2 1", "nearest 1 7 0"].map(|line| {
+                let Line::Call { process, call } = Line::parse(line) else { panic!("{line}") };
+                let mut lent = Lent::default();
+                lent.set(part, Some(count));
+                let asked = Asked { call: &call, process, settings, lent: &lent, memory };
+                let number = refusal(&asked, |_, _| 3);
+                let expected = RustOnRefusal::NotAsked("it has no such call");
+                assert!(number.is_none_or(|number| rust_on_refusal(&asked, number) == expected), "{line}");
+                number
+            });
+            assert_eq!(numbers[0], numbers[1]);
+            numbers[0]
+        };
+        assert_eq!(number(&settings, &memory, Part::Pages, 4096), None);
+        assert_eq!(number(&settings, &memory, Part::Pages, 4095), Some(2));
+        assert_eq!(number(&settings, &memory, Part::Frames, 4095), Some(2));
+        assert_eq!(number(&settings, &memory, Part::Hash, 0), None);
+        HeaderCell::Len.set(&mut memory.header, 10);
+        assert_eq!(number(&settings, &memory, Part::Frames, 0), Some(1)); // 1 before 2
+        settings.capacity = 10;
+        assert_eq!(number(&settings, &memory, Part::Hash, 0), None);
+        HeaderCell::Blocks.set(&mut memory.header, 2);
+        assert_eq!(number(&settings, &memory, Part::Hash, 0), Some(1));
+        settings.max_blocks = 2;
+        assert_eq!(number(&settings, &memory, Part::Hash, 0), Some(2)); // one block is lent
+        settings.max_blocks = 17;
+        assert_eq!(number(&settings, &memory, Part::Hash, 0), Some(1));
     }
 
     #[test]

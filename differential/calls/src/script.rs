@@ -1,19 +1,22 @@
 //! The lines of a call script, read and written.
 
 use crate::memory::{HeaderCell, OwnCell, Record, Settings, SharedCell, HEADER_CELLS, LINUX_OFD, PROCESS_SCOPED_FCNTL};
+use std::collections::BTreeSet;
 use std::fmt;
 use std::str::FromStr;
 
 /// The lock answers of a call, one byte a slot.
 pub type Card = Vec<u8>;
 
-/// One call with its arguments, by its name in the Rust. With `cells` a lookup's answer tells the hash cells that it
-/// looked at.
+/// One call with its arguments, by its name in the Rust, or in the port where the Rust does not have it. With `cells` a
+/// lookup's answer tells the hash cells that it looked at.
 #[derive(Clone, Debug, PartialEq, Eq)]
 pub enum Call {
     RecordFrame { page: u64, frame: u64, grow: bool },
     RollbackFrames { bound: u64 },
     FindFrame { page: u64, min: u64, max: u64, watermark: Option<u64>, cells: bool },
+    FrameBetween { page: u64, min: u64, max: u64 },
+    NearestFrame { page: u64, to: u64 },
     IterLatestFrames { min: u64, max: u64, room: u64 },
     RegisterReader { owner: u64, mark: u64, card: Card },
     RegisterReaderForSnapshot { owner: u64, mark: u64, card: Card },
@@ -44,6 +47,8 @@ pub enum Answer {
     Kept(u32),
     Frame(u64),
     Nothing,
+    /// One of these frames, two at least, by rising number; which one is undecided. The port never answers so.
+    OneOf(Vec<u64>),
     /// The frame of a lookup, and how many hash cells it looked at.
     Looked {
         frame: Option<u64>,
@@ -309,23 +314,34 @@ fn own_cell(word: &str) -> Option<OwnCell> {
 }
 
 impl Call {
-    /// Record, rollback, lookup and list.
+    /// Record, rollback, lookup, search over the entries and list.
     pub fn is_on_index(&self) -> bool {
         matches!(
             self,
             Self::RecordFrame { .. }
                 | Self::RollbackFrames { .. }
                 | Self::FindFrame { .. }
+                | Self::FrameBetween { .. }
+                | Self::NearestFrame { .. }
                 | Self::IterLatestFrames { .. }
         )
     }
 
-    /// Lookup, list, and an owner's numbers: calls that can change no cell.
+    /// The searches over the entries, which the Rust does not have.
+    pub fn is_entry_search(&self) -> bool {
+        matches!(self, Self::FrameBetween { .. } | Self::NearestFrame { .. })
+    }
+
+    /// Lookup, search, list, and an owner's numbers: calls that can change no cell.
     pub fn only_reads(&self) -> bool {
-        matches!(
-            self,
-            Self::FindFrame { .. } | Self::IterLatestFrames { .. } | Self::OwnerNew { .. } | Self::OwnerParts { .. }
-        )
+        self.is_entry_search()
+            || matches!(
+                self,
+                Self::FindFrame { .. }
+                    | Self::IterLatestFrames { .. }
+                    | Self::OwnerNew { .. }
+                    | Self::OwnerParts { .. }
+            )
     }
 
     /// Whether the answer tells the hash cells that were looked at.
@@ -360,6 +376,8 @@ impl Call {
                 watermark: w.number_or_dash()?,
                 cells: word == "looked",
             },
+            "between" => Self::FrameBetween { page: w.number()?, min: w.number()?, max: w.number()? },
+            "nearest" => Self::NearestFrame { page: w.number()?, to: w.number()? },
             "list" => Self::IterLatestFrames { min: w.number()?, max: w.number()?, room: w.number()? },
             "reg" => Self::RegisterReader { owner: w.number()?, mark: w.number()?, card: w.card()? },
             "regs" => Self::RegisterReaderForSnapshot { owner: w.number()?, mark: w.number()?, card: w.card()? },
@@ -398,6 +416,8 @@ impl Call {
                 let word = if *cells { "looked" } else { "find" };
                 write!(f, "{word} {p} {page} {min} {max} {}", dash_or(watermark))
             }
+            Self::FrameBetween { page, min, max } => write!(f, "between {p} {page} {min} {max}"),
+            Self::NearestFrame { page, to } => write!(f, "nearest {p} {page} {to}"),
             Self::IterLatestFrames { min, max, room } => write!(f, "list {p} {min} {max} {room}"),
             Self::RegisterReader { owner, mark, card } => write!(f, "reg {p} {owner} {mark} {}", row(card)),
             Self::RegisterReaderForSnapshot { owner, mark, card } => {
@@ -478,7 +498,28 @@ impl fmt::Display for Line {
     }
 }
 
+/// How many frames of an undecided answer are shown.
+const SHOWN_FRAMES: usize = 5;
+
 impl Answer {
+    /// Any of these frames; none if there is none.
+    pub fn one_of(frames: impl Iterator<Item = u64>) -> Self {
+        let frames: Vec<u64> = frames.collect::<BTreeSet<_>>().into_iter().collect();
+        match frames[..] {
+            [] => Self::Nothing,
+            [frame] => Self::Frame(frame),
+            _ => Self::OneOf(frames),
+        }
+    }
+
+    /// Whether an answer is this one, or where this one is undecided any of its frames.
+    pub fn allows(&self, answer: &Self) -> bool {
+        match (self, answer) {
+            (Self::OneOf(frames), Self::Frame(frame)) => frames.binary_search(frame).is_ok(),
+            _ => self == answer,
+        }
+    }
+
     /// Of a lookup the frame without the cells; any other answer as it is.
     pub fn frame_alone(&self) -> Self {
         match self {
@@ -496,6 +537,11 @@ impl fmt::Display for Answer {
             Self::Kept(len) => write!(f, "kept {len}"),
             Self::Frame(frame) => write!(f, "frame {frame}"),
             Self::Nothing => f.write_str("none"),
+            Self::OneOf(frames) => {
+                f.write_str("one of")?;
+                frames.iter().take(SHOWN_FRAMES).try_for_each(|frame| write!(f, " {frame}"))?;
+                f.write_str(if frames.len() > SHOWN_FRAMES { " .." } else { "" })
+            }
             Self::Looked { cells, .. } => write!(f, "{} cells {cells}", self.frame_alone()),
             Self::List(pairs) => {
                 write!(f, "list {}", pairs.len())?;
@@ -523,6 +569,7 @@ mod tests {
     fn known_lines_are_written_as_read() {
         let script = "new 4096 1 1 65 F 2\nrecord 0 7 1 0\nrollback 1 18446744073709551615\nfind 0 7 1 2 -\nfind 0 7 1 2 9\n\
                       looked 0 7 1 2 -\nlooked 1 7 1 2 18446744073709551615\n\
+                      between 1 7 2 1\nbetween 0 0 0 18446744073709551615\nnearest 0 7 18446744073709551615\n\
                       list 0 1 9 10\nreg 0 5 3 0129\nregs 0 5 3 -\nregdb 0 5 01\nupd 0 4294967295 5 3\nrel 0 1 5\nrels 0 3 1 5\nfloor 0 1\ndbreader 1 2\n\
                       limit 0 -\nacqw 0 5 255\nacqc 1 5 0\nrelw 0 5\nrelc 0 5\ncommit 0 9 4294967295 0 1\nbackfill 0 3\n\
                       seq 0\nepoch 1\nowner 0 1 2\nparts 0 4294967298\npoke hash 8191 65535\npoke maxframe 0 5\npoke cowner 0 1\nown 0 lowner 3 4\n\
@@ -559,6 +606,12 @@ mod tests {
             "find 0 1 1 1",
             "looked 0 1 1 1",
             "looked 0 1 1 1 - 1",
+            "between 0 1 1",
+            "between 0 1 1 1 -",
+            "nearest 0 1",
+            "nearest 0 1 -",
+            "nearest 0 1 1 1",
+            "nearest 0 1 18446744073709551616",
             "floor 0 1a",
             "floor 0 ",
             "poke len 1 0",
@@ -583,6 +636,21 @@ mod tests {
         for text in lines {
             assert_eq!(Line::parse(text), Line::Unknown(text.into()), "{text}");
         }
+    }
+
+    #[test]
+    fn an_undecided_answer_allows_its_frames_and_nothing_else() {
+        let of = |frames: &[u64]| Answer::one_of(frames.iter().copied());
+        assert_eq!([of(&[]), of(&[7]), of(&[7, 7])], [Answer::Nothing, Answer::Frame(7), Answer::Frame(7)]);
+        let undecided = of(&[9, 0, 9, u64::MAX]);
+        assert_eq!(undecided, Answer::OneOf(vec![0, 9, u64::MAX]));
+        assert!([0, 9, u64::MAX].iter().all(|frame| undecided.allows(&Answer::Frame(*frame))));
+        assert!(!undecided.allows(&Answer::Frame(8)) && !undecided.allows(&Answer::Nothing));
+        assert!(undecided.allows(&undecided) && !undecided.allows(&of(&[0, 9])) && !of(&[9]).allows(&undecided));
+        assert!(of(&[9]).allows(&Answer::Frame(9)) && !of(&[9]).allows(&Answer::Frame(8)));
+        assert!(of(&[]).allows(&Answer::Nothing) && !of(&[]).allows(&Answer::Frame(0)));
+        assert_eq!(undecided.to_string(), "one of 0 9 18446744073709551615");
+        assert_eq!(of(&[6, 5, 4, 3, 2, 1]).to_string(), "one of 1 2 3 4 5 ..");
     }
 
     #[test]

@@ -1,6 +1,7 @@
 //! One script on the port, on the Rust, or on both with every cell compared after each call.
 
 use crate::demand3::Demand3;
+use crate::entry_searches::between;
 use crate::looked::looked;
 use crate::memory::{
     copy, differing_cells, Differing, Memory, Own, OwnCell, Record, Settings, SharedCell, Slots, View, BLOCK_ENTRIES,
@@ -303,7 +304,7 @@ impl World {
         };
         let agree = match (&self.port, &port_answer) {
             (Some(memory), Some(answer)) => {
-                rust_answer.as_ref() == Ok(answer)
+                rust_answer.as_ref().is_ok_and(|rust_answer| rust_answer.allows(answer))
                     && (cells == Cells::None || rust.same_readers(memory))
                     && (cells != Cells::All || rust.same_index(memory))
             }
@@ -311,7 +312,8 @@ impl World {
             _ => rust_answer.is_ok(),
         };
         match rust_answer {
-            Ok(answer) if agree => Ok(Reply::Answer(answer)),
+            // The port's, which is one of those that an undecided answer names.
+            Ok(answer) if agree => Ok(Reply::Answer(port_answer.unwrap_or(answer))),
             _ => {
                 let answers = [
                     port_answer.map_or("not asked".into(), |answer| answer.to_string()),
@@ -341,7 +343,12 @@ impl World {
         };
         // A call that only reads is lent memory that Rust's types let nobody change.
         let cells = if call.only_reads() { Cells::None } else { cells };
-        let agree = other == *answer
+        // Which of several frames a search gives is undecided, by either way.
+        let allowed = match (call, answer) {
+            (Call::FrameBetween { page, min, max }, Answer::Frame(_)) => between(memory, *page, *min, *max),
+            _ => answer.clone(),
+        };
+        let agree = allowed.allows(&other)
             && (cells == Cells::None || memory.same_but_index(port))
             && (cells != Cells::All || memory.same_index(port));
         if agree {

@@ -73,6 +73,12 @@ pub trait Port {
     fn find_frame(&self, g: Given, page: u64, min: u64, max: u64, watermark: Option<u64>) -> Option<Answer> {
         None
     }
+    fn frame_between(&self, g: Given, page: u64, min: u64, max: u64) -> Option<Answer> {
+        None
+    }
+    fn nearest_frame(&self, g: Given, page: u64, to: u64) -> Option<Answer> {
+        None
+    }
     fn iter_latest_frames(&self, g: Given, min: u64, max: u64, room: u64) -> Option<Answer> {
         None
     }
@@ -146,6 +152,8 @@ pub trait Port {
             Call::RecordFrame { page, frame, grow } => self.record_frame(g, page, frame, grow),
             Call::RollbackFrames { bound } => self.rollback_frames(g, bound),
             Call::FindFrame { page, min, max, watermark, .. } => self.find_frame(g, page, min, max, watermark),
+            Call::FrameBetween { page, min, max } => self.frame_between(g, page, min, max),
+            Call::NearestFrame { page, to } => self.nearest_frame(g, page, to),
             Call::IterLatestFrames { min, max, room } => self.iter_latest_frames(g, min, max, room),
             Call::RegisterReader { owner, mark, ref card } => self.register_reader(g, owner, mark, card),
             Call::RegisterReaderForSnapshot { owner, mark, ref card } => {

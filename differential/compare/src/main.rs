@@ -11,7 +11,7 @@ use calls::exhaustive;
 use calls::random::cases::{cases, other_forms};
 use calls::random::inputs::inputs;
 use calls::random::{self, Family, Found, Tally, Wanted};
-use calls::script::Line;
+use calls::script::{Call, Line};
 use calls::session::{Reply, Session, Sides};
 use calls::sides::{MakeRust, Port};
 use calls::states;
@@ -154,8 +154,9 @@ fn random_scripts(sides: Sides, words: &[&str]) -> ExitCode {
         Ok(Tally { calls, on_index, on_readers, refused, through_process, checked }) => {
             let Wanted { seed, sequences, .. } = wanted;
             let calls = format!("{calls} calls ({on_index} on the index, {on_readers} on readers)");
-            let Checked { lookups, lists, floors, limits } = checked;
-            let held = format!("{lookups} lookups, {lists} lists, {floors} floors and {limits} limits under a hold");
+            let Checked { lookups, searches, lists, floors, limits } = checked;
+            let read = format!("{lookups} lookups, {searches} searches, {lists} lists");
+            let held = format!("{read}, {floors} floors and {limits} limits under a hold");
             let through = match sides.process {
                 Some(_) => format!("{through_process} through Process too, "),
                 None => String::new(),
@@ -183,16 +184,17 @@ fn all_sequences(sides: Sides, words: &[&str]) -> ExitCode {
         }
         Err(found) => return told(&found),
     }
-    let (mut total, mut calls) = (0, 0);
+    let (mut total, mut calls, mut searches) = (0, 0, 0);
     let run = exhaustive::run(sides, length, |tally| {
-        println!("exhaustive: {}, {} sequences", tally.opening, tally.sequences);
+        println!("exhaustive: {}, {} sequences, {} searches", tally.opening, tally.sequences, tally.searches);
         total += tally.sequences;
         calls += tally.calls;
+        searches += tally.searches;
     });
     match run {
         Ok(()) if calls == 0 => nothing("no sequence has a call"),
         Ok(()) => {
-            println!("exhaustive: {total} sequences of up to {length} calls, no difference");
+            println!("exhaustive: {total} sequences of up to {length} calls, {searches} searches, no difference");
             ExitCode::SUCCESS
         }
         Err(found) => told(&found),
@@ -203,6 +205,11 @@ fn all_sequences(sides: Sides, words: &[&str]) -> ExitCode {
 const SHORT: usize = 160;
 const BETWEEN_DUMPS: usize = 10;
 
+/// Whether the port may answer in more than one way, so that no answer can be recorded.
+fn is_undecided(line: &Line) -> bool {
+    matches!(line, Line::Call { call: Call::FrameBetween { .. }, .. })
+}
+
 fn print_scripts(sides: Sides, words: &[&str]) -> ExitCode {
     let Some(wanted) = wanted(&words[1..]) else { return fault(USAGE) };
     let mut printed = 0;
@@ -210,7 +217,7 @@ fn print_scripts(sides: Sides, words: &[&str]) -> ExitCode {
         if script.len() <= SHORT {
             printed += 1;
             for lines in script.chunks(BETWEEN_DUMPS) {
-                lines.iter().for_each(|line| println!("{line}"));
+                lines.iter().filter(|line| !is_undecided(line)).for_each(|line| println!("{line}"));
                 println!("{}", Line::Dump { process: 0 });
             }
         }

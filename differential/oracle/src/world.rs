@@ -3,6 +3,7 @@
 use crate::io::MappedFile;
 use crate::shared_wal_coordination::peek::Process;
 use crate::sync::Arc;
+use calls::entry_searches;
 use calls::memory::{copy, Header, Memory, Own, OwnCell, Record, Settings, SharedCell, Slots, View, BLOCK_ENTRIES};
 use calls::script::{Answer, Call, New};
 use calls::sides::{Panicked, Rust};
@@ -129,7 +130,8 @@ impl World {
             Call::RecordFrame { grow, .. } => self.file.set_grow(*grow),
             _ => {}
         }
-        let rust = &self.processes[process];
+        let world = &*self;
+        let rust = &world.processes[process];
         let before = rust.header();
         caught(|| match *call {
             Call::RecordFrame { page, frame, .. } => {
@@ -149,6 +151,9 @@ impl World {
             Call::FindFrame { page, min, max, watermark, .. } => {
                 frame_or_nothing(rust.find_frame(page, min, max, watermark))
             }
+            // The port's own calls: the second reading answers for the Rust, from the Rust's memory.
+            Call::FrameBetween { page, min, max } => entry_searches::between(world, page, min, max),
+            Call::NearestFrame { page, to } => entry_searches::nearest(world, page, to),
             Call::IterLatestFrames { min, max, .. } => Answer::List(rust.iter_latest_frames(min, max)),
             Call::RegisterReader { owner, mark, .. } => rust.register_reader(owner, mark).map_or(Answer::Nothing, slot),
             Call::RegisterReaderForSnapshot { owner, mark, .. } => {

@@ -59,6 +59,30 @@ fn the_sample_in_columns() {
 }
 
 #[test]
+fn searches_are_answered_by_the_second_reading() {
+    check(
+        "new 4096 1 1 1 O 1 => new
+         record 0 7 1 0 => stored
+         record 0 8199 2 0 => stored
+         record 0 7 5 0 => stored
+         between 0 7 2 5 => frame 5
+         between 0 7 1 5 => one of 1 5
+         between 0 7 2 4 => none
+         between 0 7 5 1 => none
+         nearest 0 7 3 => frame 1
+         nearest 0 7 4 => frame 5
+         nearest 0 8 4 => none
+         lend hash 0
+         nearest 0 8199 9 => frame 2
+         lend pages 4095
+         nearest 0 8199 9 => refused 2
+         between 0 7 5 1 => refused 2
+         poke len 0 4097
+         between 0 7 2 5 => refused 1",
+    );
+}
+
+#[test]
 fn record_drops_resets_and_refuses() {
     check(
         "new 1 1 1 1 O 1

@@ -127,6 +127,70 @@ fn the_port_by_another_way_is_held_against_the_port() {
     }
 }
 
+/// A port of the searches, which gives an answer and may write to a cell.
+#[derive(Clone)]
+struct Gives {
+    answer: Answer,
+    writes: bool,
+}
+
+impl Port for Gives {
+    fn frame_between(&self, g: Given, _: u64, _: u64, _: u64) -> Option<Answer> {
+        if self.writes {
+            g.memory.frames[4095] = 1;
+        }
+        Some(self.answer.clone())
+    }
+    fn nearest_frame(&self, g: Given, _: u64, _: u64) -> Option<Answer> {
+        self.frame_between(g, 0, 0, 0)
+    }
+}
+
+/// What becomes of a search by the C functions and by another way; page 7 has the frames 9 and 3, in this order.
+fn searched(line: &str, port: &Gives, process: &Gives) -> Result<String, String> {
+    let mut session = Session::new(Sides { process: Some(process), ..with(port) });
+    let pokes = ["poke page 0 7", "poke frame 0 9", "poke page 1 7", "poke frame 1 3", "poke len 0 2"];
+    for line in ["new 4096 1 1 1 O 1"].iter().chain(&pokes) {
+        session.step(&Line::parse(line)).unwrap_or_else(|difference| panic!("{difference}"));
+    }
+    session.step(&Line::parse(line)).map(|reply| reply.to_string()).map_err(|difference| difference.to_string())
+}
+
+#[test]
+fn which_of_several_frames_is_between_is_not_asked() {
+    let gives = |answer| Gives { answer, writes: false };
+    let [low, high, other, none] = [Answer::Frame(3), Answer::Frame(9), Answer::Frame(5), Answer::Nothing].map(gives);
+    let between = "between 0 7 3 9";
+    for port in [&low, &high] {
+        let given = Ok(port.answer.to_string());
+        assert_eq!([searched(between, port, &low), searched(between, port, &high)], [given.clone(), given]);
+        let told = format!("difference at: {between}\n  port: {}\n  Process: ", port.answer);
+        assert_eq!(searched(between, port, &other), Err(format!("{told}frame 5\n")));
+        assert_eq!(searched(between, port, &none), Err(format!("{told}none\n")));
+    }
+    let told = format!("difference at: {between}\n  port: frame 5\n  Rust: one of 3 9\n");
+    assert_eq!(searched(between, &other, &other), Err(told));
+    assert!(searched(between, &none, &none).is_err());
+    // One frame, and none.
+    assert!(searched("between 0 7 4 9", &high, &high).is_ok() && searched("between 0 7 4 9", &low, &low).is_err());
+    assert!(searched("between 0 7 4 8", &none, &none).is_ok() && searched("between 0 7 4 8", &low, &low).is_err());
+    assert!(searched("between 0 7 4 8", &none, &low).is_err());
+    // The nearest is decided.
+    assert!(searched("nearest 0 7 6", &low, &low).is_ok() && searched("nearest 0 7 6", &high, &high).is_err());
+    assert!(searched("nearest 0 7 6", &low, &high).is_err());
+}
+
+#[test]
+fn a_search_that_stores_is_found() {
+    let good = Gives { answer: Answer::Frame(3), writes: false };
+    let stores = Gives { writes: true, ..good.clone() };
+    for line in ["between 0 7 3 9", "nearest 0 7 3"] {
+        let told = format!("difference at: {line}\n  port: frame 3\n  Rust: ");
+        let words = searched(line, &stores, &good).expect_err("a difference");
+        assert!(words.starts_with(&told) && words.ends_with("\n  frame 4095: port 1, Rust 0\n"), "{words}");
+    }
+}
+
 /// Another way that has no first call.
 struct FromTheSecond(Cell<bool>);
 

@@ -42,6 +42,15 @@ fn recorded(reply: u32) -> Option<Answer> {
     }
 }
 
+fn searched(reply: sys::FrameReply) -> Answer {
+    let sys::FrameReply { refusal, found, frame } = reply;
+    readers::answer(refusal, &[found.into(), frame], || match (found, frame) {
+        (0, 0) => Some(Answer::Nothing),
+        (1, _) => Some(Answer::Frame(frame)),
+        _ => None,
+    })
+}
+
 /// What a call on the index is given.
 fn index(g: Given<'_>) -> sys::Index<'_> {
     let (capacity, max_blocks) = (g.settings.capacity, g.settings.max_blocks);
@@ -71,6 +80,14 @@ impl Port for Library {
             (1, _) => Some(Answer::Looked { frame: Some(frame), cells }),
             _ => None,
         }))
+    }
+
+    fn frame_between(&self, g: Given, page: u64, min: u64, max: u64) -> Option<Answer> {
+        Some(searched(sys::frame_between(index(g).to_read(), page, min, max)))
+    }
+
+    fn nearest_frame(&self, g: Given, page: u64, to: u64) -> Option<Answer> {
+        Some(searched(sys::nearest_frame(index(g).to_read(), page, to)))
     }
 
     fn owner_new(&self, pid: u32, instance_id: u32) -> Option<Answer> {

@@ -99,6 +99,8 @@ fn made(p: &mut Process<&mut CardLocks>, g: Given, call: &Call) -> Answer {
         }
         Call::RollbackFrames { bound } => told(p.rollback_frames(m, bound), Answer::Kept),
         Call::FindFrame { page, min, max, watermark, .. } => lookup(p, m, page, (min, max), watermark),
+        Call::FrameBetween { page, min, max } => told(p.frame_between(m, page, min, max), frame),
+        Call::NearestFrame { page, to } => told(p.nearest_frame(m, page, to), frame),
         Call::IterLatestFrames { min, max, room } => list(p, m, (min, max), room),
         Call::RegisterReader { owner, mark, .. } => told(p.register_reader(m, owned(owner), mark), slot),
         Call::RegisterReaderForSnapshot { owner, mark, .. } => {

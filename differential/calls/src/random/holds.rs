@@ -32,7 +32,7 @@ impl Maker<'_> {
         let greatest = marks.iter().copied().max().unwrap_or(0);
         let len = self.visible_len(view);
         let last = if len == 0 { 0 } else { view.frame(len - 1) };
-        let call = match self.dice.below(40) {
+        let call = match self.dice.below(44) {
             0..=7 => {
                 let frame = match self.dice.below(16) {
                     0 => 1,
@@ -96,9 +96,14 @@ impl Maker<'_> {
             }
             32..=34 => {
                 let (min, max) = self.held_bounds(&marks, last);
+                Call::FrameBetween { page: self.held_page(), min, max }
+            }
+            35 => Call::NearestFrame { page: self.held_page(), to: self.held_bounds(&marks, last).1 },
+            36..=38 => {
+                let (min, max) = self.held_bounds(&marks, last);
                 Call::IterLatestFrames { min, max, room: self.dice.of(&[9, 9, 9, 1]) }
             }
-            35..=38 => Call::MinActiveReaderFrame { card: self.true_card(view, settings, process) },
+            39..=42 => Call::MinActiveReaderFrame { card: self.true_card(view, settings, process) },
             _ => Call::CopyBackLimit { card: self.true_card(view, settings, process) },
         };
         Line::Call { process, call }

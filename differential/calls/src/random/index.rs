@@ -1,4 +1,4 @@
-//! Record, rollback, lookup and list, with an index filled beforehand and damaged on the way.
+//! Record, rollback, lookup, search and list, with an index filled beforehand and damaged on the way.
 
 use super::Maker;
 use crate::memory::{HeaderCell, Settings, SharedCell, View, BLOCK_ENTRIES, BLOCK_HASH_CELLS};
@@ -174,7 +174,7 @@ impl Maker<'_> {
         if bad && self.dice.one_in(2) {
             return self.mend(view, settings);
         }
-        let call = match self.dice.below(20) {
+        let call = match self.dice.below(23) {
             0..=6 => {
                 let len = self.visible_len(view);
                 let last = if len == 0 { 0 } else { view.frame(len - 1) };
@@ -228,9 +228,55 @@ impl Maker<'_> {
                 checksum_2: 2,
                 transaction_count: 3,
             },
+            16..=18 => self.entry_search(view),
             _ => return self.damage_index(view),
         };
         Line::Call { process, call }
+    }
+
+    /// A search for a page, more often one that the index has, around two of its frames that lie side by side.
+    fn entry_search(&mut self, view: &dyn View) -> Call {
+        let (len, page) = (self.visible_len(view), self.likely_page(view));
+        let entries = (0..len).filter(|entry| view.page(*entry) == page);
+        let mut frames: Vec<u64> = entries.map(|entry| view.frame(entry)).collect();
+        frames.sort_unstable();
+        frames.dedup();
+        let (low, high) = if frames.is_empty() {
+            (self.likely_frame(view), self.likely_frame(view))
+        } else {
+            let at = self.dice.index(frames.len());
+            (frames[at], frames.get(at + 1).copied().unwrap_or(frames[at]))
+        };
+        if self.dice.one_in(2) {
+            return Call::NearestFrame { page, to: self.frame_to_search_from(low, high) };
+        }
+        let (min, max) = self.bounds_around(low, high);
+        Call::FrameBetween { page, min, max }
+    }
+
+    /// Bounds that take both frames in, or one of them, or neither, or stand in the wrong order.
+    fn bounds_around(&mut self, low: u64, high: u64) -> (u64, u64) {
+        let [low_or_beside, high_or_beside] =
+            [low, high].map(|frame| frame.wrapping_add(self.dice.of(&[0, 1, u64::MAX])));
+        match self.dice.below(9) {
+            0 => (low, low),
+            1 => (low.wrapping_add(1), high.wrapping_sub(1)),
+            2 => (low.wrapping_add(1), high),
+            3 => (low, high.wrapping_sub(1)),
+            4 => (0, low_or_beside),
+            5 => (high_or_beside, u64::MAX),
+            6 => (0, u64::MAX),
+            7 => (high_or_beside, low_or_beside),
+            _ => (low_or_beside, high_or_beside),
+        }
+    }
+
+    /// The middle of two frames, where there may be a tie, or beside it; the frames themselves; the ends and the middle of
+    /// the whole range.
+    fn frame_to_search_from(&mut self, low: u64, high: u64) -> u64 {
+        let middle = low.min(high) + low.abs_diff(high) / 2;
+        let from = self.dice.of(&[middle, middle, middle, low, high, 0, u64::MAX, 1 << 63]);
+        from.wrapping_add(self.dice.of(&[0, 0, 0, 1, u64::MAX]))
     }
 
     /// Block count or length, brought nearer to what is accepted.
@@ -251,7 +297,11 @@ impl Maker<'_> {
         let entry = if len == 0 { self.dice.index(entries) } else { self.entry(len) };
         let poke = |cell, index: usize, value| Line::Poke { cell, index: index as u64, value };
         match self.dice.below(11) {
-            0 | 1 => poke(SharedCell::Frame, entry, self.likely_frame(view)),
+            0 | 1 => {
+                let end = self.dice.of(&[0, 1, 1 << 63, u64::MAX]);
+                let frame = if self.dice.one_in(4) { end } else { self.likely_frame(view) };
+                poke(SharedCell::Frame, entry, frame)
+            }
             2 | 3 => poke(SharedCell::Page, entry, self.likely_page(view)),
             4..=6 => {
                 let block = entry / BLOCK_ENTRIES;

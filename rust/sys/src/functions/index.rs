@@ -69,6 +69,18 @@ pub struct FindReply {
     pub cells: u32,
 }
 
+/// The answer of a search over the entries.
+#[derive(Clone, Copy, Debug, PartialEq, Eq)]
+#[repr(C)]
+pub struct FrameReply {
+    /// 0, or the refusal's number.
+    pub refusal: u32,
+    /// 1 if there is a frame.
+    pub found: u32,
+    /// The frame, else 0.
+    pub frame: u64,
+}
+
 /// The answer of a list.
 #[derive(Clone, Copy, Debug, PartialEq, Eq)]
 #[repr(C)]
@@ -81,6 +93,7 @@ pub struct ListReply {
 
 layout! { IndexReply has 8 bytes aligned to 4: refusal at 0, answer at 4 }
 layout! { FindReply has 24 bytes aligned to 8: refusal at 0, found at 4, frame at 8, cells at 16 }
+layout! { FrameReply has 16 bytes aligned to 8: refusal at 0, found at 4, frame at 8 }
 layout! { ListReply has 16 bytes aligned to 8: refusal at 0, count at 8 }
 
 extern "C" {
@@ -126,6 +139,29 @@ extern "C" {
         has_watermark: u32,
         watermark: u64,
     ) -> FindReply;
+    fn wal_frame_between(
+        capacity: u32,
+        max_blocks: u32,
+        header: Header,
+        pages: *const u64,
+        pages_len: usize,
+        frames: *const u64,
+        frames_len: usize,
+        page_id: u64,
+        min_frame: u64,
+        max_frame: u64,
+    ) -> FrameReply;
+    fn wal_nearest_frame(
+        capacity: u32,
+        max_blocks: u32,
+        header: Header,
+        pages: *const u64,
+        pages_len: usize,
+        frames: *const u64,
+        frames_len: usize,
+        page_id: u64,
+        to_frame: u64,
+    ) -> FrameReply;
     fn wal_iter_latest_frames(
         capacity: u32,
         max_blocks: u32,
@@ -177,6 +213,20 @@ pub fn find_frame(
         [pages, frames, hash],
         [page_id, min_frame, max_frame, has_watermark, watermark]
     )
+}
+
+/// `wal_frame_between`, which is not lent the hash.
+#[inline]
+pub fn frame_between(index: IndexToRead<'_>, page_id: u64, min_frame: u64, max_frame: u64) -> FrameReply {
+    let IndexToRead { capacity, max_blocks, header, pages, frames, hash: _ } = index;
+    wal!(wal_frame_between, [capacity, max_blocks, *header], [], [pages, frames], [page_id, min_frame, max_frame])
+}
+
+/// `wal_nearest_frame`, which is not lent the hash.
+#[inline]
+pub fn nearest_frame(index: IndexToRead<'_>, page_id: u64, to_frame: u64) -> FrameReply {
+    let IndexToRead { capacity, max_blocks, header, pages, frames, hash: _ } = index;
+    wal!(wal_nearest_frame, [capacity, max_blocks, *header], [], [pages, frames], [page_id, to_frame])
 }
 
 /// `wal_iter_latest_frames`.
