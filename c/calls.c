@@ -670,9 +670,10 @@ static struct answer has_db_file(const struct given *g) {
     return (struct answer){.refusal = r.refusal, .yes = r.active};
 }
 
-/* The published frame is given as the mark. */
+/* The published frame is given as the mark, the number of copied frames as the owner. */
 static struct answer limit(const struct given *g) {
-    struct wal_limit_reply r = wal_copy_back_limit(g->n, g->mode, g->mark, SLOTS_OF(g), OWN_OF(g), CARD_OF(g));
+    struct wal_limit_reply r =
+        wal_copy_back_limit(g->n, g->mode, g->mark, g->owner, SLOTS_OF(g), OWN_OF(g), CARD_OF(g));
     return (struct answer){.refusal = r.refusal, .mark = r.limit};
 }
 
@@ -696,7 +697,7 @@ static const struct call {
     {unregister_for_snapshot, MODE | EVERY_SLOT | REGISTRY | SLOT | MARK, 65, B(44), B(54), {0, 1, 0, 0, 0}},
     {min_active, MODE | EVERY_SLOT | CARD, 0, 0, 0, {0, 1, 0, 0, B(51)}},
     {has_db_file, MODE | EVERY_SLOT | CARD, 0, 0, 0, {0, 0, 0, 0, 0}},
-    {limit, MODE | EVERY_SLOT | CARD, 0, 0, B(60), {0, 0, 0, 0, B(51)}},
+    {limit, MODE | EVERY_SLOT | CARD, 0, B(30), B(60), {0, 0, 0, 0, B(51)}},
 };
 
 enum { READER_CALLS = sizeof CALLS / sizeof *CALLS };
@@ -931,13 +932,19 @@ static void live_slots(void) {
     take(68, B(45), B(40), 0);
     take(69, B(46), 0, 0);
     wanted = w;
-    g.mark = B(60);
     ANSWERS(min_active, .yes = 1, .mark = B(40));
     ANSWERS(has_db_file, .yes = 1);
+
+    /* Slot 69 reads the file: the limit is the least of the published frame, the floor and the number of copied frames. */
+    g.mark = B(60);
+    g.owner = B(70);
     ANSWERS(limit, .mark = B(40));
     g.mark = B(39);
     ANSWERS(limit, .mark = B(39));
+    g.owner = B(38);
+    ANSWERS(limit, .mark = B(38));
     g.mark = B(60);
+    ANSWERS(limit, .mark = B(38));
 
     g.card[68] = WAL_LOCK_ERROR;
     REFUSED(min_active, WAL_REFUSED_PROBE);
@@ -951,16 +958,30 @@ static void live_slots(void) {
     w = before;
     ANSWERS(has_db_file, .yes = 1);
     w = before;
-    ANSWERS(limit, .mark = B(51));
+    ANSWERS(limit, .mark = B(38));
+
+    /* A dead reader of the file is reclaimed and holds nothing back. */
     g.card[69] = WAL_GRANTED;
+    before = w;
     want_emptied(69);
     ANSWERS(has_db_file, 0);
+    w = before;
+    ANSWERS(limit, .mark = B(51));
 
-    /* No mark is left. */
+    /* No mark is left, and then one of the file alone, held here. */
     w.reader_frames[1] = w.reader_frames[65] = WAL_UNUSED;
     wanted = w;
     ANSWERS(min_active, 0);
     ANSWERS(limit, .mark = B(60));
+    take(69, B(46), 0, B(46));
+    wanted = w;
+    ANSWERS(limit, .mark = B(38));
+
+    /* A lock that could not be asked, of a slot that reads the file. */
+    take(69, B(46), 0, 0);
+    wanted = w;
+    g.card[69] = WAL_LOCK_ERROR;
+    REFUSED(limit, WAL_REFUSED_PROBE);
 }
 
 /* A slot whose bit is clear and that has no owner is reclaimed in LinuxOfd alone. */
@@ -1014,6 +1035,11 @@ static void modes(void) {
     g.card[68] = g.card[69] = WAL_LOCK_ERROR;
     ANSWERS(min_active, .yes = 1, .mark = B(40));
     ANSWERS(has_db_file, .yes = 1);
+    ANSWERS(limit, .mark = B(30));
+
+    /* And a slot without an owner is skipped. */
+    w.reader_owners[69] = wanted.reader_owners[69] = 0;
+    ANSWERS(has_db_file, 0);
     ANSWERS(limit, .mark = B(40));
 }
 

@@ -107,8 +107,9 @@ static void fill_card(void) {
 
 static void limit(void) {
     fill_card();
-    struct wal_limit_reply r = wal_copy_back_limit(SLOTS, MODE, header.max_frame, bitmap, 1, reader_frames, SLOTS,
-                                                   reader_owners, SLOTS, local_readers, SLOTS, card, SLOTS);
+    struct wal_limit_reply r =
+        wal_copy_back_limit(SLOTS, MODE, header.max_frame, header.nbackfills, bitmap, 1, reader_frames, SLOTS,
+                            reader_owners, SLOTS, local_readers, SLOTS, card, SLOTS);
     if (r.refusal != 0)
         printf("copy-back limit: refused %" PRIu32 "\n", r.refusal);
     else

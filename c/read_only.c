@@ -196,8 +196,9 @@ CALL(min_active_reader_frame) {
     return (struct answer){.refusal = r.refusal, .yes = r.found, .number = r.mark};
 }
 
+/* The number of copied frames is given as the watermark. */
 CALL(copy_back_limit) {
-    struct wal_limit_reply r = wal_copy_back_limit(g->n, g->mode, g->frame, SLOTS_OF(g), CARD_OF(g));
+    struct wal_limit_reply r = wal_copy_back_limit(g->n, g->mode, g->frame, g->watermark, SLOTS_OF(g), CARD_OF(g));
     return (struct answer){.refusal = r.refusal, .number = r.limit};
 }
 
@@ -726,6 +727,8 @@ static void floors(void) {
         take(69, 46, 0, 0);
         STORES_NOTHING(has_active_db_file_reader, "a reader of the file", .yes = 1);
         STORES_NOTHING(min_active_reader_frame, "a reader of the file", .yes = 1, .number = 51);
+        g.watermark = 12;
+        STORES_NOTHING(copy_back_limit, "a reader of the file", .number = 12);
 
         take(69, 46, 40, 0);
         w->card[69] = WAL_LOCK_ERROR;

@@ -173,7 +173,8 @@ static struct wal_floor_reply min_mark(void) {
 static struct wal_limit_reply limit(void) {
     uint8_t card[SLOTS];
     probe_card(card);
-    struct wal_limit_reply r = wal_copy_back_limit(SLOTS, MODE, shared->header.max_frame, READERS, card, SLOTS);
+    struct wal_limit_reply r =
+        wal_copy_back_limit(SLOTS, MODE, shared->header.max_frame, shared->header.nbackfills, READERS, card, SLOTS);
     free_card(card, NULL);
     return r;
 }
@@ -207,24 +208,20 @@ static void release(struct wal_lock_reply (*call)(uint32_t, struct wal_header *,
         free_lock(byte);
 }
 
-/* Copies frames back, as far as readers allow, and publishes how many are copied. The question, the limit, the copying
- * and the publishing stand in one turn, under the checkpoint lock. Nothing new is copied while a reader reads the
- * database file alone, or if a question was refused. */
+/* Copies frames back, as far as readers allow, and publishes how many are copied. The limit, the copying and the
+ * publishing stand in one turn, under the checkpoint lock. While a reader reads the database file alone, the limit is not
+ * above what is copied already; nothing new is copied then, or if the limit was refused. */
 static void copy_back(FILE *out) {
     if (!acquire(wal_try_acquire_checkpoint, &local_checkpoint, CHECKPOINT)) {
         fprintf(out, "no checkpoint lock\n");
         return;
     }
-    struct wal_db_file_reply file_readers = db_file_reader();
     struct wal_limit_reply upto = limit();
-    if (file_readers.refusal != 0 || upto.refusal != 0)
-        fprintf(out, "nothing copied: refused %" PRIu32 "\n",
-                file_readers.refusal != 0 ? file_readers.refusal : upto.refusal);
-    else if (file_readers.active)
-        fprintf(out, "nothing copied: the database file is read\n");
+    if (upto.refusal != 0)
+        fprintf(out, "nothing copied: refused %" PRIu32 "\n", upto.refusal);
     else {
-        /* Here a host copies the frames nbackfills + 1 to upto.limit into the database file, and syncs it. */
         if (upto.limit > shared->header.nbackfills)
+            /* Here a host copies the frames nbackfills + 1 to upto.limit into the database file, and syncs it. */
             wal_publish_backfill(&shared->header, upto.limit);
         fprintf(out, "%" PRIu64 " copied\n", shared->header.nbackfills);
     }

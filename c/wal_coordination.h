@@ -57,7 +57,7 @@ extern "C" {
 /* The version of this header and its library; the Rust crate has the same. As one number 1.2.3 is 1002003. Where a
  * declaration changes, the minor number rises as long as the major one is 0: a host is then compiled anew. */
 #define WAL_COORDINATION_VERSION_MAJOR 0
-#define WAL_COORDINATION_VERSION_MINOR 3
+#define WAL_COORDINATION_VERSION_MINOR 4
 #define WAL_COORDINATION_VERSION_PATCH 0
 #define WAL_COORDINATION_VERSION                                                       \
     (WAL_COORDINATION_VERSION_MAJOR * 1000000 + WAL_COORDINATION_VERSION_MINOR * 1000 + \
@@ -343,7 +343,7 @@ struct wal_reader_reply wal_register_reader_for_snapshot(
     uint64_t mark);
 
 /* The same at mark 0: a reader of the database file alone, for whom all published frames are copied. While one is
- * live no process copies a further frame: see wal_copy_back_limit. Refusals 1, 2, 9, 13, 14. */
+ * live, wal_copy_back_limit allows no further frame to be copied. Refusals 1, 2, 9, 13, 14. */
 struct wal_reader_reply wal_register_db_file_reader(
     size_t n, uint32_t mode, uint64_t *bitmap, size_t bitmap_len, uint64_t *reader_frames, size_t reader_frames_len,
     uint64_t *reader_owners, size_t reader_owners_len, uint64_t *local_readers, size_t local_readers_len,
@@ -379,18 +379,20 @@ struct wal_limit_reply {
     uint64_t limit;
 };
 
-/* The copy-back limit: the lesser of max_frame, the published frame, and the floor; max_frame if there is no floor. It
- * reclaims and refuses as the floor does.
+/* The copy-back limit: no frame above it may be copied to the database file. It is the lesser of max_frame, the
+ * published frame, and the floor; max_frame if there is no floor. While a live reader, in any process, reads only the
+ * database file (mark 0), it is the lesser of that and nbackfills, the number of frames already copied: such a reader
+ * must not see a page change. It reclaims and refuses as the floor does, and all locks that the card was granted are
+ * freed. max_frame and nbackfills are the header's, in this order.
  *
- * The limit leaves readers of the database file (mark 0) out, and they must not see a page change: a caller also asks
- * wal_has_active_db_file_reader, and copies nothing new while its answer is 1 or one of the two was refused. Both
- * questions, the copying and wal_publish_backfill stand in one turn, under the checkpoint lock: so no such reader
- * registers in between. docs/LIFE-OF-A-FRAME.md says when the turn may be given up to copy. */
-struct wal_limit_reply wal_copy_back_limit(size_t n, uint32_t mode, uint64_t max_frame, uint64_t *bitmap,
-                                           size_t bitmap_len, uint64_t *reader_frames, size_t reader_frames_len,
-                                           uint64_t *reader_owners, size_t reader_owners_len,
-                                           const uint64_t *local_readers, size_t local_readers_len,
-                                           const uint8_t *card, size_t card_len);
+ * Frames are to be copied if the limit is above nbackfills, and nothing is if it is not, or if the call was refused. The
+ * call, the copying and wal_publish_backfill stand in one turn, under the checkpoint lock: so no reader of the database
+ * file registers in between. docs/LIFE-OF-A-FRAME.md says when the turn may be given up to copy. */
+struct wal_limit_reply wal_copy_back_limit(size_t n, uint32_t mode, uint64_t max_frame, uint64_t nbackfills,
+                                           uint64_t *bitmap, size_t bitmap_len, uint64_t *reader_frames,
+                                           size_t reader_frames_len, uint64_t *reader_owners,
+                                           size_t reader_owners_len, const uint64_t *local_readers,
+                                           size_t local_readers_len, const uint8_t *card, size_t card_len);
 
 /* active: 1 if some live reader, in any process, reads only the database file. */
 struct wal_db_file_reply {
@@ -398,8 +400,9 @@ struct wal_db_file_reply {
     uint32_t active;
 };
 
-/* Asked before frames are copied back: see wal_copy_back_limit. Slots of dead readers that it meets are reclaimed. All
- * locks that the card was granted are freed. Refusals 1, 2, 14, 15. */
+/* Asked before the log begins anew: the memory is made fresh only where no reader is left. (Before frames are copied
+ * wal_copy_back_limit alone is asked.) It stops at the first such reader; slots of dead readers that it meets before are
+ * reclaimed. All locks that the card was granted are freed. Refusals 1, 2, 14, 15. */
 struct wal_db_file_reply wal_has_active_db_file_reader(size_t n, uint32_t mode, uint64_t *bitmap, size_t bitmap_len,
                                                        uint64_t *reader_frames, size_t reader_frames_len,
                                                        uint64_t *reader_owners, size_t reader_owners_len,

@@ -25,8 +25,7 @@
 //! assert_eq!(process.record_frame(&mut memory, 7, 2, false), Ok(Recorded::Stored));
 //! assert_eq!(process.find_frame(&memory, 7, 1, reader.max_frame, None), Ok(Some(1)));
 //!
-//! // Frames above the reader's mark are not copied back before it is released. (Before it copies, a host also asks
-//! // has_active_db_file_reader: see copy_back_limit.)
+//! // Frames above the reader's mark are not copied back before it is released.
 //! process.publish_commit(&mut memory, 2, (0, 0), 2);
 //! assert_eq!(process.copy_back_limit(&mut memory), Ok(1));
 //! process.unregister_reader_for_snapshot(&mut memory, reader)?;
@@ -42,8 +41,8 @@
 //! - **Readers register in the turn in which they look.** In one turn a reader looks at `max_frame` and `nbackfills`
 //!   of the [`Header`] and registers: if they are equal by [`Process::register_db_file_reader`], and else at
 //!   `max_frame`.
-//! - **Database file readers hold copying back.** Before it copies, a host asks
-//!   [`Process::has_active_db_file_reader`]: see [`Process::copy_back_limit`].
+//! - **Readers hold copying back**, those of the log and those of the database file: before it copies, a host asks
+//!   [`Process::copy_back_limit`].
 //! - **A full index stays full.** What a host does then is said at [`Process::record_frame`].
 //! - **Few pages written often make lookups slow.** [`Process::probe_lengths`] shows it.
 //! - **Which frame [`Process::frame_between`] gives is not decided** where a page has several between the bounds.

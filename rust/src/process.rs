@@ -558,8 +558,8 @@ impl<L: ByteLocks> Process<L> {
     /// Registers a reader of the database file alone, at mark 0. All of them in this process share one slot.
     ///
     /// Such a reader needs all published frames to be copied: it is registered in a turn in which `nbackfills` of the
-    /// header equals `max_frame`. While one is live no process copies a further frame: see
-    /// [`copy_back_limit`](Self::copy_back_limit).
+    /// header equals `max_frame`. While one is live, [`copy_back_limit`](Self::copy_back_limit) allows no further frame
+    /// to be copied.
     ///
     /// # Errors
     ///
@@ -617,13 +617,13 @@ impl<L: ByteLocks> Process<L> {
     }
 
     /// The copy-back limit: no frame above it may be copied to the database file. It is the lesser of the published
-    /// frame and the floor, and reclaims as the floor does.
+    /// frame and the floor. While a live reader, in any process, reads only the database file (mark 0), it is the
+    /// lesser of that and `nbackfills` of the header, the number of frames already copied: such a reader must not see a
+    /// page change. The call reclaims as the floor does.
     ///
-    /// It leaves readers of the database file (mark 0) out, and they must not see a page change. So a host also asks
-    /// [`has_active_db_file_reader`](Self::has_active_db_file_reader), and copies nothing new while the answer is
-    /// `true` or one of the two calls is refused. Both calls, the copying and
-    /// [`publish_backfill`](Self::publish_backfill) stand in one turn, under the checkpoint lock, so that no such
-    /// reader registers in between:
+    /// So frames are copied if the limit is above `nbackfills`, and nothing is if it is not, or if the call is refused.
+    /// The call, the copying and [`publish_backfill`](Self::publish_backfill) stand in one turn, under the checkpoint
+    /// lock, so that no reader of the database file registers in between:
     ///
     /// ```
     /// # use wal_coordination::{SharedWalOwnershipMode::*, *};
@@ -634,12 +634,10 @@ impl<L: ByteLocks> Process<L> {
     /// # let owner = SharedOwnerRecord::new(7, 1);
     /// /// Copies frames back in this turn, as far as readers allow. Answers how many are copied.
     /// fn copy_back<L: ByteLocks>(process: &mut Process<L>, memory: &mut Memory<'_>) -> Result<u64, Refusal> {
-    ///     if !process.has_active_db_file_reader(memory)? {
-    ///         let limit = process.copy_back_limit(memory)?;
+    ///     let limit = process.copy_back_limit(memory)?;
+    ///     if limit > memory.header.nbackfills {
     ///         // Here the frames nbackfills + 1 to limit are copied, and the database file is synced.
-    ///         if limit > memory.header.nbackfills {
-    ///             process.publish_backfill(memory, limit);
-    ///         }
+    ///         process.publish_backfill(memory, limit);
     ///     }
     ///     Ok(memory.header.nbackfills)
     /// }
@@ -653,7 +651,7 @@ impl<L: ByteLocks> Process<L> {
     /// let reader = process.register_db_file_reader(&mut memory, owner)?.expect("a slot is free");
     /// process.record_frame(&mut memory, 7, 2, false)?;
     /// process.publish_commit(&mut memory, 2, (0, 0), 2);
-    /// assert_eq!(process.copy_back_limit(&mut memory), Ok(2));
+    /// assert_eq!(process.copy_back_limit(&mut memory), Ok(1));
     /// assert_eq!(copy_back(&mut process, &mut memory), Ok(1));
     /// process.unregister_reader_for_snapshot(&mut memory, reader)?;
     /// assert_eq!(copy_back(&mut process, &mut memory), Ok(2));
@@ -666,16 +664,17 @@ impl<L: ByteLocks> Process<L> {
     /// As [`min_active_reader_frame`](Self::min_active_reader_frame).
     pub fn copy_back_limit(&mut self, memory: &mut Memory<'_>) -> Result<u64, Refusal> {
         let card = self.probe_card(memory);
-        let published = memory.header.max_frame;
+        let header = *memory.header;
         let slots = memory.slots(&self.settings);
-        let reply = sys::copy_back_limit(slots, published, &self.own.local_readers, &card);
+        let reply = sys::copy_back_limit(slots, &header, &self.own.local_readers, &card);
         self.unlock_all_but(&card, None);
         accepted(reply.refusal)?;
         Ok(reply.limit)
     }
 
-    /// Whether some live reader, in any process, reads only the database file. Slots of dead readers that it meets are
-    /// reclaimed. A host asks this before it copies frames back: see [`copy_back_limit`](Self::copy_back_limit).
+    /// Whether some live reader, in any process, reads only the database file. It stops at the first one; slots of dead
+    /// readers that it meets before are reclaimed. A host asks this before it begins the log anew. Before it copies
+    /// frames back it asks [`copy_back_limit`](Self::copy_back_limit) alone.
     ///
     /// # Errors
     ///

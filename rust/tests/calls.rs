@@ -37,6 +37,7 @@ in_both_modes! {
     locks_that_the_answer_does_not_name_are_given_back
     a_shared_mark_has_one_slot
     a_reader_of_the_database_file_is_no_floor
+    a_reader_of_the_database_file_holds_copying_back
     one_process_is_the_writer
     counters_and_publishes
     a_refused_call_changes_nothing
@@ -227,6 +228,32 @@ fn a_reader_of_the_database_file_is_no_floor(mode: SharedWalOwnershipMode) -> Re
     Ok(())
 }
 
+fn a_reader_of_the_database_file_holds_copying_back(mode: SharedWalOwnershipMode) -> Result<(), Refusal> {
+    let (kernel, mut owned) = fresh(mode);
+    let (mut writer, mut reader) = (kernel.process(1), kernel.process(2));
+    let memory = &mut owned.lend();
+    writer.publish_commit(memory, 9, (0, 0), 1);
+    writer.publish_backfill(memory, 4);
+    assert_eq!(writer.copy_back_limit(memory), Ok(9));
+
+    // Whichever process asks, and with another mark beside it.
+    let held = reader.register_db_file_reader(memory, owner(2))?.expect("a slot is free");
+    assert_eq!((writer.copy_back_limit(memory), reader.copy_back_limit(memory)), (Ok(4), Ok(4)));
+    let marked = writer.register_reader(memory, owner(1), 3)?.expect("a slot is free");
+    assert_eq!(writer.copy_back_limit(memory), Ok(3));
+    writer.unregister_reader(memory, marked)?;
+
+    reader.unregister_reader_for_snapshot(memory, held)?;
+    assert_eq!(writer.copy_back_limit(memory), Ok(9));
+
+    // A dead one holds nothing back.
+    assert!(reader.register_db_file_reader(memory, owner(2))?.is_some());
+    assert_eq!(writer.copy_back_limit(memory), Ok(4));
+    kernel.dies(2);
+    assert_eq!(writer.copy_back_limit(memory), Ok(9));
+    Ok(())
+}
+
 fn one_process_is_the_writer(mode: SharedWalOwnershipMode) -> Result<(), Refusal> {
     let (kernel, mut owned) = fresh(mode);
     let (mut first, mut second) = (kernel.process(1), kernel.process(2));
@@ -346,6 +373,7 @@ fn only_linux_ofd_refuses_where_a_lock_could_not_be_asked() {
         assert!(other.register_reader(memory, owner(2), 5).is_ok_and(|reader| reader.is_some()));
         assert!(other.register_db_file_reader(memory, owner(2)).is_ok_and(|reader| reader.is_some()));
         process.publish_commit(memory, 9, (0, 0), 1);
+        process.publish_backfill(memory, 4);
         kernel.failing.borrow_mut().extend([LockByte::Reader(0), LockByte::Reader(1)]);
         (
             process.min_active_reader_frame(memory),
@@ -355,7 +383,7 @@ fn only_linux_ofd_refuses_where_a_lock_could_not_be_asked() {
     });
     assert_eq!(
         answers,
-        [(Err(Refusal::Probe), Err(Refusal::Probe), Err(Refusal::Probe)), (Ok(Some(5)), Ok(5), Ok(true)),]
+        [(Err(Refusal::Probe), Err(Refusal::Probe), Err(Refusal::Probe)), (Ok(Some(5)), Ok(4), Ok(true)),]
     );
 }
 

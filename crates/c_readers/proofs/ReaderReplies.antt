@@ -73,8 +73,8 @@ module _ {R : Type 0} (reply-of : Answer → R) (call : ℕ → SharedWalOwnersh
     pub slots-told : (b f o l b′ f′ o′ l′ : List ℕ) → ReaderCall (call (s .n) (s .mode)) b f o l a b′ f′ o′ l′ → SlotsReplied reply-of (with-mode (mode-given mode) (call n)) b f o l r b′ f′ o′ l′
     slots-told b f o l b′ f′ o′ l′ e z p = told-of _ _ _ _ (e z p)
 
-    pub limit-told : (published : ℕ) (b f o l b′ f′ o′ : List ℕ) → LimitCall (call (s .n) (s .mode)) published b f o l a b′ f′ o′ → LimitReplied reply-of (with-mode (mode-given mode) (call n)) published b f o l r b′ f′ o′
-    limit-told published b f o l b′ f′ o′ e z p at = told-of _ _ _ _ (e z p at)
+    pub limit-told : (published copied : ℕ) (b f o l b′ f′ o′ : List ℕ) → LimitCall (call (s .n) (s .mode)) published copied b f o l a b′ f′ o′ → LimitReplied reply-of (with-mode (mode-given mode) (call n)) published copied b f o l r b′ f′ o′
+    limit-told published copied b f o l b′ f′ o′ e z p is-published is-copied = told-of _ _ _ _ (e z p is-published is-copied)
 
 -- a step with its mode, by what the core promises
 module _ {R : Type 0} (reply-of : Answer → R) (mode : ℕ) (call : SharedWalOwnershipMode → Call) (n records : ℕ) where

@@ -29,7 +29,7 @@ abbrev pub MoveReplied : {R : Type 0} → (Answer → R) → Call → List ℕ �
 MoveReplied reply-of call f o g r f′ =
     (z : Memory) (p : Process) → Told reply-of r (slots-in z (z .bitmap) f′ o) (registry-in p (p .local-readers) g) (after call (slots-in z (z .bitmap) f o) (registry-in p (p .local-readers) g))
 
--- A limit is on any memory whose published frame is the number given, and changes no local owner.
-abbrev pub LimitReplied : {R : Type 0} → (Answer → R) → Call → ℕ → List ℕ → List ℕ → List ℕ → List ℕ → R → List ℕ → List ℕ → List ℕ → Type 0
-LimitReplied reply-of call published b f o l r b′ f′ o′ =
-    (z : Memory) (p : Process) → z .header .«max_frame» ≡ published → Told reply-of r (slots-in z b′ f′ o′) (locals-in p l) (after call (slots-in z b f o) (locals-in p l))
+-- A limit is on any memory whose published frame and number of copied frames are those given, and changes no local owner.
+abbrev pub LimitReplied : {R : Type 0} → (Answer → R) → Call → ℕ → ℕ → List ℕ → List ℕ → List ℕ → List ℕ → R → List ℕ → List ℕ → List ℕ → Type 0
+LimitReplied reply-of call published copied b f o l r b′ f′ o′ =
+    (z : Memory) (p : Process) → z .header .«max_frame» ≡ published → z .header .nbackfills ≡ copied → Told reply-of r (slots-in z b′ f′ o′) (locals-in p l) (after call (slots-in z b f o) (locals-in p l))

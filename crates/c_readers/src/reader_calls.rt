@@ -245,20 +245,21 @@ pub extern "C" fn wal_has_active_db_file_reader(
     c_reader_replies::db_file_told(answer)
 }
 
-// The frame up to which a checkpoint may copy frames back. max_frame is the published frame. card is as in
-// wal_register_reader.
+// The frame up to which a checkpoint may copy frames back. max_frame is the published frame, nbackfills the number of
+// frames already copied. card is as in wal_register_reader.
 #[no_mangle]
 pub extern "C" fn wal_copy_back_limit(
     n: usize,
     mode: u32,
     max_frame: u64,
+    nbackfills: u64,
     bitmap: &mut [u64],
     reader_frames: &mut [u64],
     reader_owners: &mut [u64],
     local_readers: &[u64],
     card: &[u8],
 ) -> LimitReply
-    ensures { λ r. ⌜ LimitReplied limit-reply (with-mode (mode-given mode) (λ given. copy-back-limit n given (now (card .entry)))) «max_frame» (now (bitmap .entry)) (now («reader_frames» .entry)) (now («reader_owners» .entry)) (now («local_readers» .entry)) r (now (bitmap .exit)) (now («reader_frames» .exit)) (now («reader_owners» .exit)) ⌝ }
+    ensures { λ r. ⌜ LimitReplied limit-reply (with-mode (mode-given mode) (λ given. copy-back-limit n given (now (card .entry)))) «max_frame» nbackfills (now (bitmap .entry)) (now («reader_frames» .entry)) (now («reader_owners» .entry)) (now («local_readers» .entry)) r (now (bitmap .exit)) (now («reader_frames» .exit)) (now («reader_owners» .exit)) ⌝ }
 {
     let given = c_reader_replies::settings_of(n, mode);
     let lock_mode = given.mode;
@@ -266,6 +267,7 @@ pub extern "C" fn wal_copy_back_limit(
         given.n,
         lock_mode,
         max_frame,
+        nbackfills,
         bitmap,
         reader_frames,
         reader_owners,

@@ -14,7 +14,7 @@
 //    9 register_reader            slots, owner, mark
 //   10 min_active_reader_frame    slots
 //   11 has_active_db_file_reader  slots
-//   12 copy_back_limit            slots, the published max_frame
+//   12 copy_back_limit            slots, the published max_frame, nbackfills
 //
 // An answer's row on the header: the refusal or 0, the answer (a counter, or 1 for a lock that was taken, else 0), the
 // header, and the own cell for a lock. On slots: the refusal or 0, whether there is an answer, which slot, mark or limit
@@ -31,9 +31,8 @@ fn numbers_of(call: u64) -> usize {
         2 => 15,
         3 | 4 => 14,
         5 | 6 | 7 | 8 => 17,
-        9 => 15,
+        9 | 12 => 15,
         10 | 11 => 13,
-        12 => 14,
         _ => 0,
     }
 }

@@ -198,7 +198,7 @@ fn has_active_db_file_reader(slots: Slots, card: &[u8]) -> Row {
     answer(db_file_told(reader), bitmap, frames, owners, local_owners)
 }
 
-fn copy_back_limit(slots: Slots, card: &[u8], max_frame: u64) -> Row {
+fn copy_back_limit(slots: Slots, card: &[u8], max_frame: u64, nbackfills: u64) -> Row {
     let mode = slots.mode;
     let mut bitmap = slots.bitmap;
     let mut frames = slots.frames;
@@ -208,6 +208,7 @@ fn copy_back_limit(slots: Slots, card: &[u8], max_frame: u64) -> Row {
         slots.n,
         mode,
         max_frame,
+        nbackfills,
         &mut bitmap,
         &mut frames,
         &mut owners,
@@ -223,7 +224,7 @@ fn with_card(call: u64, slots: Slots, card: &[u8], first: u64, second: u64) -> R
         9 => register_reader(slots, card, SharedOwnerRecord(first), second),
         10 => min_active_reader_frame(slots, card),
         11 => has_active_db_file_reader(slots, card),
-        _ => copy_back_limit(slots, card, first),
+        _ => copy_back_limit(slots, card, first, second),
     }
 }
 

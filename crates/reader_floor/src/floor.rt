@@ -1,7 +1,10 @@
 // min_active_reader_frame, the floor below which no live reader's mark lies, and has_active_db_file_reader. Both reclaim
 // the dead slots that they meet. A failed probe (refusal 15) is looked for first, so that a refused call changes nothing.
+// The pass over all slots tells both what the floor is and whether a reader of the database file is live; the copy-back
+// limit asks for both.
 use reader_probe::live;
 use reader_probe::live::Floor;
+use reader_probe::live::LiveMarks;
 use reader_probe::probe;
 use reader_slots::slots;
 use wal_types::SharedWalOwnershipMode;
@@ -10,7 +13,7 @@ ghost use Prim.Native.Nat.{_+_, _/_, _≤_};
 ghost use lib.ListN.{length};
 ghost use Rattle.reader_slots.specs.Slots.{ReaderCall};
 ghost use Rattle.reader_floor.specs.Floor.{min-active-reader-frame, has-active-db-file-reader, min-frame-answer, db-file-answer};
-ghost use Rattle.reader_floor.specs.Inner.{FloorOf, DbFileOf};
+ghost use Rattle.reader_floor.specs.Inner.{all-slots-refusal, MarksOf, DbFileOf};
 
 // Floor is the least mark above 0 that is held, NoFloor that there is none. Refused changes nothing.
 pub enum MinFrame {
@@ -26,8 +29,33 @@ pub enum DbFileReader {
     Refused(u32),
 }
 
-// The least mark above 0 of all live slots.
-fn live_floor(
+// The refusal of a call that probes every slot, 0 for none. bitmap_len is how many words of the bitmap are lent.
+pub fn all_slots_refusal(
+    n: usize,
+    mode: SharedWalOwnershipMode,
+    bitmap_len: usize,
+    reader_frames: &[u64],
+    reader_owners: &[u64],
+    local_readers: &[u64],
+    card: &[u8],
+) -> u32
+    ensures { λ r. ⌜ r ≡ all-slots-refusal n mode (now (card .entry)) «bitmap_len» (now («reader_frames» .entry)) (now («reader_owners» .entry)) (now («local_readers» .entry)) ⌝ }
+{
+    let refusal = slots::slots_refusal(
+        n,
+        bitmap_len,
+        reader_frames.len(),
+        reader_owners.len(),
+        local_readers.len(),
+    );
+    if refusal != 0 {
+        return refusal;
+    }
+    probe::floor_refusal(n, mode, reader_frames, reader_owners, local_readers, card)
+}
+
+// The marks of all live slots, in one pass.
+pub fn live_marks(
     n: usize,
     mode: SharedWalOwnershipMode,
     bitmap: &mut [u64],
@@ -35,11 +63,14 @@ fn live_floor(
     reader_owners: &mut [u64],
     local_readers: &[u64],
     card: &[u8],
-) -> Floor
+) -> LiveMarks
     requires { ⌜ (n ≤ 256) × (((n + 63) / 64 ≤ length (now bitmap)) × ((n ≤ length (now «reader_frames»)) × ((n ≤ length (now «reader_owners»)) × ((n ≤ length (now «local_readers»)) × (length (now card) ≡ n))))) ⌝ }
-    ensures { λ r. ⌜ FloorOf n mode (now (card .entry)) (now (bitmap .entry)) (now («reader_frames» .entry)) (now («reader_owners» .entry)) (now («local_readers» .entry)) r (now (bitmap .exit)) (now («reader_frames» .exit)) (now («reader_owners» .exit)) ⌝ }
+    ensures { λ r. ⌜ MarksOf n mode (now (card .entry)) (now (bitmap .entry)) (now («reader_frames» .entry)) (now («reader_owners» .entry)) (now («local_readers» .entry)) r (now (bitmap .exit)) (now («reader_frames» .exit)) (now («reader_owners» .exit)) ⌝ }
 {
-    let mut floor = Floor::NoMark;
+    let mut marks = LiveMarks {
+        floor: Floor::NoMark,
+        db_file_reader: false,
+    };
     for slot in 0..n {
         let live = live::live_reader_frame(
             mode,
@@ -50,9 +81,9 @@ fn live_floor(
             card,
             slot,
         );
-        floor = live::lower_floor(floor, live);
+        marks = live::lower_marks(marks, live);
     }
-    floor
+    marks
 }
 
 // The least mark above 0 of all live readers: frames above it cannot be copied back. Readers of the database file alone
@@ -68,21 +99,19 @@ pub fn min_active_reader_frame(
 ) -> MinFrame
     ensures { λ r. ⌜ ReaderCall (min-active-reader-frame n mode (now (card .entry))) (now (bitmap .entry)) (now («reader_frames» .entry)) (now («reader_owners» .entry)) (now («local_readers» .entry)) (min-frame-answer r) (now (bitmap .exit)) (now («reader_frames» .exit)) (now («reader_owners» .exit)) (now («local_readers» .entry)) ⌝ }
 {
-    let refusal = slots::slots_refusal(
+    let refusal = all_slots_refusal(
         n,
+        mode,
         bitmap.len(),
-        reader_frames.len(),
-        reader_owners.len(),
-        local_readers.len(),
+        reader_frames,
+        reader_owners,
+        local_readers,
+        card,
     );
     if refusal != 0 {
         return MinFrame::Refused(refusal);
     }
-    let failure = probe::floor_refusal(n, mode, reader_frames, reader_owners, local_readers, card);
-    if failure != 0 {
-        return MinFrame::Refused(failure);
-    }
-    let Floor::Mark(least) = live_floor(
+    let marks = live_marks(
         n,
         mode,
         bitmap,
@@ -90,7 +119,9 @@ pub fn min_active_reader_frame(
         reader_owners,
         local_readers,
         card,
-    ) else {
+    );
+    let floor = marks.floor;
+    let Floor::Mark(least) = floor else {
         return MinFrame::NoFloor;
     };
     MinFrame::Floor(least)

@@ -10,7 +10,7 @@ use Rattle.wal_types.specs.Settings.{unused, is-fcntl}
 use Rattle.wal_types.specs.Refusal.{_if_, lowest, card, probe}
 use Rattle.reader_slots.specs.Slots.{bad-card}
 use Rattle.reader_slots.specs.Search.{some-slot}
-use Rattle.reader_probe.specs.declared.live.Floor.{Floor}
+use Rattle.reader_probe.specs.declared.live.LiveMarks.{LiveMarks}
 use Rattle.reader_probe.specs.declared.live.LiveFrame.{LiveFrame}
 use Rattle.reader_probe.specs.declared.live.LiveFrame.the-variants.{Frame, NotLive}
 use Rattle.reader_probe.specs.Live.{lower-floor}
@@ -33,18 +33,18 @@ failed-by mode bytes f o l i = failed-cell mode (getD f i unused) (getD o i 0) (
 abbrev pub live-by : SharedWalOwnershipMode → List ℕ → List ℕ → List ℕ → List ℕ → ℕ → Bool
 live-by mode bytes f o l i = live-cell mode (getD f i unused) (getD o i 0) (getD l i 0) (getD bytes i 0)
 
--- a live slot's mark, or none; and the floor so far with it
+-- a live slot's mark, or none; and the marks so far with it
 abbrev pub live-frame : Bool → ℕ → LiveFrame
 live-frame true frame = Frame frame
 live-frame false frame = NotLive
 
-abbrev pub floor-with : Floor → LiveFrame → Floor
-floor-with so-far (Frame frame) = lower-floor so-far frame
-floor-with so-far NotLive = so-far
-
 abbrev pub is-db-file : LiveFrame → Bool
 is-db-file (Frame frame) = eqb frame 0
 is-db-file NotLive = false
+
+abbrev pub marks-with : LiveMarks → LiveFrame → LiveMarks
+marks-with so-far (Frame frame) = record { floor = lower-floor (so-far .floor) frame; «db_file_reader» = eqb frame 0 || so-far .«db_file_reader» }
+marks-with so-far NotLive = so-far
 
 -- a live slot of mark 0 whose probe does not fail, by its cells and by lists; and without the probe
 abbrev pub db-file-cell : SharedWalOwnershipMode → ℕ → ℕ → ℕ → ℕ → Bool

@@ -1,4 +1,5 @@
-// One slot, as the floor and has_active_db_file_reader meet it: skipped, live, or dead and then reclaimed.
+// One slot, as the floor, the copy-back limit and has_active_db_file_reader meet it: skipped, live, or dead and then
+// reclaimed.
 use reader_slots::slots;
 use wal_types::DB_FILE_READER_FRAME;
 use wal_types::SharedOwnerRecord;
@@ -8,13 +9,19 @@ ghost use mathlib.Core.Path.{_≡_};
 ghost use Prim.Native.Nat.{_/_, _<_, min};
 ghost use lib.ListN.{length, getD};
 ghost use Rattle.reader_slots.specs.Inner.{emptied-if, SlotsBecome};
-ghost use Rattle.reader_probe.specs.Live.{dead};
-ghost use Rattle.reader_probe.specs.Inner.{skipped-cell, live-by, live-frame, floor-with, is-db-file};
+ghost use Rattle.reader_probe.specs.Live.{dead, lower-floor};
+ghost use Rattle.reader_probe.specs.Inner.{skipped-cell, live-by, live-frame, marks-with, is-db-file};
 
 // The floor: the least mark above 0 that is still held, or none.
 pub enum Floor {
     Mark(u64),
     NoMark,
+}
+
+// What the marks of live slots come to: the least one above 0, and whether one of them is 0.
+pub struct LiveMarks {
+    pub floor: Floor,
+    pub db_file_reader: bool,
 }
 
 // A live slot's mark, or none.
@@ -66,19 +73,35 @@ fn smaller(a: u64, b: u64) -> u64
     if a < b { a } else { b }
 }
 
-// The lesser of the floor so far and a live slot's mark. Mark 0 is a database file reader and never the floor.
-pub fn lower_floor(floor: Floor, live: LiveFrame) -> Floor
-    ensures { λ r. ⌜ r ≡ floor-with floor live ⌝ }
+// The lesser of a floor and a mark above 0.
+fn lower_floor(floor: Floor, frame: u64) -> Floor
+    requires { ⌜ 0 < frame ⌝ }
+    ensures { λ r. ⌜ r ≡ lower-floor floor frame ⌝ }
 {
-    let LiveFrame::Frame(frame) = live else {
-        return floor;
-    };
-    if frame == DB_FILE_READER_FRAME {
-        return floor;
-    }
     match floor {
         Floor::Mark(least) => Floor::Mark(smaller(least, frame)),
         Floor::NoMark => Floor::Mark(frame),
+    }
+}
+
+// The marks of live slots so far, and one more slot's. Mark 0 is a database file reader and never the floor.
+pub fn lower_marks(marks: LiveMarks, live: LiveFrame) -> LiveMarks
+    ensures { λ r. ⌜ r ≡ marks-with marks live ⌝ }
+{
+    let LiveFrame::Frame(frame) = live else {
+        return marks;
+    };
+    let floor = marks.floor;
+    if frame == DB_FILE_READER_FRAME {
+        return LiveMarks {
+            floor: floor,
+            db_file_reader: true,
+        };
+    }
+    let lower = lower_floor(floor, frame);
+    LiveMarks {
+        floor: lower,
+        db_file_reader: marks.db_file_reader,
     }
 }
 

@@ -11,10 +11,10 @@ use borrow.Author.Tests.{ne-eqb}
 use Rattle.wal_types.specs.declared.Header.{Header}
 use Rattle.wal_types.specs.declared.SharedWalOwnershipMode.the-variants.{LinuxOfd}
 use Rattle.wal_types.specs.Settings.{unused}
-use Rattle.wal_types.specs.Memory.{Memory, Process, with-header, with-local-readers, with-registry, no-mark, blank-process, slot-bit, bit-at, header-with, frame-index-len, max-frame, transaction-count, visibility-generation}
+use Rattle.wal_types.specs.Memory.{Memory, Process, with-header, with-local-readers, with-registry, no-mark, blank-process, slot-bit, bit-at, header-with, frame-index-len, max-frame, nbackfills-cell, transaction-count, visibility-generation}
 use Rattle.wal_types.specs.Call.{Pair, pair, Answer, refused, ok, value, stored, kept, frame-found, listed, slot-taken, accepted, Done, done, after}
 use Rattle.word_bits.specs.Bit.{clear-bit}
-use Rattle.header_publish.specs.Publish.{publish-commit}
+use Rattle.header_publish.specs.Publish.{publish-commit, publish-backfill}
 use Rattle.wal_types.specs.Fresh.{fresh-header}
 use Rattle.index_end.specs.declared.cells.IndexCells.{IndexCells}
 use Rattle.index_end.specs.Cells.{cells-of}
@@ -55,10 +55,12 @@ use Rattle.sequence.specs.Sequence.{find-op, rollback-op, look-op, index
 use Rattle.sequence.specs.Book.{Book, empty-book, book-after, InPairs, here, there}
 use Rattle.sequence.specs.Hold.{holders-after, direct, shared, begins-direct, begins-shared, SharedLasts, EndsDirect, RollsBack, rolls-back, KeepsAbove, SameSlot, LeavesSlot}
 use Rattle.sequence.specs.Statement.{at-now, Premises, Demand3}
-use Rattle.sequence.specs.Example.{small, zeros, fresh-memory, fresh-process, fresh-world, reader, before, begin, during, Held, answered, lookup, listing, search, floor, limit, begin-shared, during-shared, own-floor, Example}
+use Rattle.sequence.specs.DbFileHold.{present, FilePremises, DbFileHoldsBack}
+use Rattle.sequence.specs.Example.{small, zeros, fresh-memory, fresh-process, fresh-world, reader, before, begin, during, Held, answered, lookup, listing, search, floor, limit, begin-shared, during-shared, own-floor, begin-file, during-file, Example}
 use Rattle.sequence.proofs.IndexStands.{fresh-stands, run-stands}
 use Rattle.sequence.proofs.Trace.{left-by, ComesTo, Trace, over, step, append, trace-run, trace-answers, trace-book, trace-lasts, throughout}
 use Rattle.sequence.proofs.Demand3.{demand-3}
+use Rattle.sequence.proofs.DbFileHold.{db-file-holds-back}
 
 -- FRESH
 fresh-long : LongMemory 1 fresh-memory
@@ -528,6 +530,59 @@ shared-holds =
       slot-left = subst (Throughout (LeavesSlot small 0 0) small (during-shared ++ (own-floor ∷ []))) (sym shares-in) shared-left-through;
     }
 
+-- THE HOLD OF THE DATABASE FILE: a registration at mark 0, and two frames copied
+abbrev f5 : Memory
+f5 = slots-in m4 (2 ∷ []) (0 ∷ unused ∷ []) (10 ∷ 0 ∷ [])
+
+abbrev filer : Process
+filer = with-registry (with-local-readers blank-process (10 ∷ 0 ∷ [])) (record { mark = 0; slot = 0; owner = record { 0 = 10 }; holders = 1 } ∷ no-mark ∷ [])
+
+abbrev f6 : Memory
+f6 = with-header f5 (header-with nbackfills-cell 2 (f5 .header))
+
+file5 : after (register-reader-for-snapshot 2 LinuxOfd 10 0 (1 ∷ 1 ∷ [])) m4 fresh-process ≡ done (slot-taken 0 10 0) f5 filer
+unfolding register-reader-for-snapshot first-record byte-above lowest-slot bit-at clear-bit
+file5 = refl
+
+copied6 : after (publish-backfill 2) f5 fresh-process ≡ done ok f6 fresh-process
+unfolding publish-backfill
+copied6 = refl
+
+file-limited : after (copy-back-limit 2 LinuxOfd (0 ∷ 1 ∷ [])) f6 fresh-process ≡ done (value 2) f6 fresh-process
+unfolding copy-back-limit byte-above some-slot floor-from empty-slots
+file-limited = refl
+
+abbrev fw5 : World
+fw5 = left-by w4 0 (done (slot-taken 0 10 0) f5 filer)
+
+abbrev fw6 : World
+fw6 = left-by fw5 1 (done ok f6 fresh-process)
+
+trace-file : Trace small during-file fw5 (ok ∷ []) fw6
+trace-file = step (done ok f6 fresh-process) copied6 over
+
+files-in : next small begin-file (run small before fresh-world) ≡ fw5
+files-in = ap (next small begin-file) begins-in ∙ ap (left-by w4 0) file5
+
+no-file-holder : holders-after small 0 0 before fresh-world 0 ≡ 0
+unfolding holders-after
+no-file-holder = refl
+
+file-left-through : Throughout (LeavesSlot small 0 0) small (during-file ++ (limit ∷ [])) fw5
+unfolding trace-file append
+file-left-through =
+    throughout small (LeavesSlot small 0 0) SlotStays slot-stays (append small trace-file (step {e = limit} _ file-limited over))
+    ((λ x. same-slot refl refl refl), ((λ x. same-slot refl refl refl), tt))
+
+file-holds : FilePremises small 1 fresh-world before begin-file during-file limit shared 0
+file-holds =
+    record {
+      from-fresh = fresh;
+      begins = begins-shared {owner = 10} {o = 10} (ap (answer-of small begin-file) begins-in ∙ ap (λ (x : Done). x .answer) file5) no-file-holder;
+      lasts = subst (λ (v : World). SharedLasts small 0 0 during-file v 1) (sym files-in) (trace-lasts small 0 0 1 trace-file (omega arith, omega arith));
+      slot-left = subst (Throughout (LeavesSlot small 0 0) small (during-file ++ (limit ∷ []))) (sym files-in) file-left-through;
+    }
+
 -- THE EXAMPLE
 pub example : Example
 example =
@@ -548,6 +603,9 @@ example =
       shared-calls-answer = trace-answers small (append small trace-before (step (done (slot-taken 0 10 3) m5 (sharer 1)) share5 trace-shared));
       shared-held = shared-holds;
       shared-floor-gives = ap (answer-of small own-floor) (ap (run small during-shared) shares-in ∙ trace-run small trace-shared) ∙ ap (λ (x : Done). x .answer) floor8;
+      file-calls-answer = trace-answers small (append small trace-before (step (done (slot-taken 0 10 0) f5 filer) file5 trace-file));
+      file-held = file-holds;
+      file-limit-gives = ap (answer-of small limit) (ap (run small during-file) files-in ∙ trace-run small trace-file) ∙ ap (λ (x : Done). x .answer) file-limited;
     }
 
 -- DEMAND 3 says the same of these calls, from the book of three pairs alone
@@ -580,3 +638,8 @@ limit-by-demand-3 = demand-3 small 1 fresh-world before begin during limit direc
 pub shared-floor-by-demand-3 : (f : ℕ) × (answer-of small own-floor (at-now small 1 fresh-world before begin-shared during-shared own-floor shared 0 3) ≡ frame-found f) × (f ≤ 3)
 unfolding Demand3
 shared-floor-by-demand-3 = demand-3 small 1 fresh-world before begin-shared during-shared own-floor shared 0 3 (example .shared-held) .floor-owed _ refl (subst accepted (sym (example .shared-floor-gives)) (λ r. elim r [ ]))
+
+-- THE LIKE AT MARK 0 says the same of the limit
+pub file-limit-by-theorem : (l : ℕ) × (answer-of small limit (present small 1 fresh-world before begin-file during-file limit shared 0) ≡ value l) × (l ≤ present small 1 fresh-world before begin-file during-file limit shared 0 .memory .header .nbackfills)
+unfolding DbFileHoldsBack
+file-limit-by-theorem = db-file-holds-back small 1 fresh-world before begin-file during-file limit shared 0 (example .file-held) _ refl (subst accepted (sym (example .file-limit-gives)) (λ r. elim r [ ]))

@@ -58,7 +58,7 @@ begin-keeps : (s : Settings) (mark : ℕ) (w : World) (e : Event) {holders i m :
 begin-keeps s mark w e (begins-direct {who} {m = m} {owner = owner} {bytes = bytes} a) = untouched-keeps mark (w .memory) _ (untouched-by (on-slot s (register-op owner m bytes)) (slot-beside s (register-op owner m bytes)) (w .memory) (w .processes who))
 begin-keeps s mark w e (begins-shared {who} {m = m} {owner = owner} {bytes = bytes} a z) = untouched-keeps mark (w .memory) _ (untouched-by (on-registry s (share-op owner m bytes)) (shared-beside s (share-op owner m bytes)) (w .memory) (w .processes who))
 
-lasts-on : (kind : Kind) (s : Settings) (who i x : ℕ) (events : List Event) (w : World) → Lasts kind s who i x events w → LastsOn kind s who i x events w 1
+pub lasts-on : (kind : Kind) (s : Settings) (who i x : ℕ) (events : List Event) (w : World) → Lasts kind s who i x events w → LastsOn kind s who i x events w 1
 lasts-on direct s who i x events w f = f
 lasts-on shared s who i x events w f = f
 

@@ -1,4 +1,4 @@
--- Demand 3: its proof; the order of refusals; and a worked sequence.
+-- Demand 3: its proof; the like of a hold at mark 0; the order of refusals; and a worked sequence.
 pub mod Looks
 pub mod ReaderStores
 pub mod SlotsAside
@@ -15,6 +15,7 @@ pub mod HoldLasts
 pub mod IndexAnswers
 pub mod ReadersFloor
 pub mod Demand3
+pub mod DbFileHold
 pub mod Order
 pub mod Trace
 pub mod Example

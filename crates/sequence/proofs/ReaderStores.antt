@@ -17,7 +17,7 @@ use Rattle.reader_register.specs.Register.{reclaim-unless, take-found, first-sl
 use Rattle.reader_moves.specs.Update.{update-tests, update-reader, releases-slot, unregister-reader, release-tests}
 use Rattle.reader_probe.specs.Live.{dead, looked-at}
 use Rattle.reader_floor.specs.Floor.{reclaim-dead, floor-of, floor-answer, probe-tests, db-file-reader, min-active-reader-frame, has-active-db-file-reader}
-use Rattle.reader_limit.specs.Limit.{limit-of, copy-back-limit}
+use Rattle.reader_limit.specs.Limit.{limit-at, copy-back-limit}
 use Rattle.reader_marks.specs.declared.Record.{Record}
 use Rattle.reader_marks.specs.declared.Record.the-variants.{At, Nothing}
 use Rattle.reader_marks.specs.Registry.{record-of, one-less, with-record}
@@ -96,7 +96,7 @@ module _ (P : Store → Type 0) (part : (k : SlotPart) (i v : ℕ) → P (to-slo
     pub limit-stores : EveryOfCall P (copy-back-limit n mode bytes)
     unfolding copy-back-limit
     limit-stores =
-        every-unless P (probe-tests n mode bytes n) (λ m p. does (value (limit-of (m .header .«max_frame») (floor-of n mode bytes m p))) (reclaim-dead mode bytes p n) m p) (λ m p. dead-stores p n m)
+        every-unless P (probe-tests n mode bytes n) (λ m p. does (value (limit-at n mode bytes m p)) (reclaim-dead mode bytes p n) m p) (λ m p. dead-stores p n m)
 
     pub db-reader-stores : EveryOfCall P (has-active-db-file-reader n mode bytes)
     unfolding has-active-db-file-reader

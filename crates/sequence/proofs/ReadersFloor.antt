@@ -8,23 +8,25 @@ use native.Mathlib.Decide.{ℕ-discrete, decLe}
 use native.Mathlib.Omega.{arith}
 use lib.ListN.{length, getD, set, List·getD-eq-default}
 use lib.Seq.{getD-set-same, getD-set-other, set-out}
-use borrow.Author.Tests.{ne-eqb}
+use lib.Dec.{eqb}
+use borrow.Author.Tests.{eq-eqb, ne-eqb}
 use Rattle.wal_types.specs.declared.SharedWalOwnershipMode.{SharedWalOwnershipMode}
 use Rattle.wal_types.specs.declared.SharedWalOwnershipMode.the-variants.{LinuxOfd, ProcessScopedFcntl}
 use Rattle.wal_types.specs.Settings.{unused, is-fcntl}
 use Rattle.wal_types.specs.Memory.{Memory, Process}
 use Rattle.wal_types.specs.Store.{apply, when}
 use Rattle.wal_types.specs.Refusal.{lowest}
-use Rattle.wal_types.specs.Call.{value, frame-found, turned-away, accepted, Done, after, does}
+use Rattle.wal_types.specs.Call.{Call, value, frame-found, turned-away, accepted, Done, after, does}
 use Rattle.wal_types.proofs.Stores.{apply-append}
 use Rattle.reader_probe.specs.declared.live.Floor.{Floor}
 use Rattle.reader_probe.specs.declared.live.Floor.the-variants.{Mark, NoMark}
 use Rattle.reader_slots.specs.Slots.{held, granted, empty-slot, empty-slots}
-use Rattle.reader_probe.specs.Live.{skipped, dead}
+use Rattle.reader_probe.specs.Live.{skipped, dead, live}
 use Rattle.reader_slots.proofs.Calls.{none-applies, enough-by}
 use Rattle.reader_floor.specs.Floor.{floor-of, floor-answer, probe-tests, reclaim-dead, min-active-reader-frame}
-use Rattle.reader_limit.specs.Limit.{limit-of, copy-back-limit}
+use Rattle.reader_limit.specs.Limit.{limit-of, db-file-is-read, held-back, limit-at, copy-back-limit}
 use Rattle.reader_slots.proofs.Cells.{getD-any, and-false}
+use Rattle.reader_slots.proofs.Some.{some-false}
 use Rattle.reader_slots.proofs.Kept.{SlotSame, slot-same, emptied-other}
 use Rattle.reader_floor.proofs.Least.{AtMost, floor-at-most}
 use Rattle.sequence.proofs.SlotsAside.{by-tests}
@@ -111,7 +113,7 @@ held-not-dead true g = refl
 held-not-dead false g = refl
 
 -- Slot i has mark x in the memory, by whichever process; it is held here, or has its mark afterwards.
-module _ (n : ℕ) (mode : SharedWalOwnershipMode) (bytes : List ℕ) (m : Memory) (p : Process) (i x : ℕ) (below : i < n) (marked : getD (m .reader-frames) i unused ≡ x) (used : x ≡ unused → ⊥) (owned : getD (m .reader-owners) i 0 ≡ 0 → ⊥) (some : 1 ≤ x) where
+module _ (n : ℕ) (mode : SharedWalOwnershipMode) (bytes : List ℕ) (m : Memory) (p : Process) (i x : ℕ) (below : i < n) (marked : getD (m .reader-frames) i unused ≡ x) (used : x ≡ unused → ⊥) (owned : getD (m .reader-owners) i 0 ≡ 0 → ⊥) where
   abbrev Stays : Memory → Type 0
   Stays m′ = (held p i ≡ true) ⊎ (getD (m′ .reader-frames) i unused ≡ x)
 
@@ -122,32 +124,62 @@ module _ (n : ℕ) (mode : SharedWalOwnershipMode) (bytes : List ℕ) (m : Memor
   is-alive (inl h) = rw h (held-not-dead (skipped mode m i) (granted bytes i))
   is-alive (inr e) = not-dead mode bytes p i n 0 m (omega arith) (omega arith) (λ z. used (sym e ∙ z))
 
-  bounded : lowest (probe-tests n mode bytes n m p) ≡ 0 → Stays (apply (reclaim-dead mode bytes p n m) m) → AtMost x (floor-of n mode bytes m p)
-  bounded e h =
-      let t = none-applies (probe-tests n mode bytes n m p) e in
-      let r = enough-by n (length (m .bitmap)) (length (m .reader-frames)) (length (m .reader-owners)) (length (p .local-readers)) (t .0) (t .1 .0) in
-      floor-at-most mode bytes p m n i x below (live-or-dead (skipped mode m i) (held p i) (granted bytes i) not-skipped (is-alive h)) (getD-any (m .reader-frames) i 0 unused (omega arith) ∙ marked) (λ z. (omega arith))
+  is-live : Stays (apply (reclaim-dead mode bytes p n m) m) → live mode bytes p m i ≡ true
+  is-live h = live-or-dead (skipped mode m i) (held p i) (granted bytes i) not-skipped (is-alive h)
 
-  pub floor-bound : accepted (after (min-active-reader-frame n mode bytes) m p .answer) → Stays (after (min-active-reader-frame n mode bytes) m p .memory) → (f : ℕ) × (after (min-active-reader-frame n mode bytes) m p .answer ≡ frame-found f) × (f ≤ x)
-  unfolding min-active-reader-frame AtMost
-  floor-bound =
-      by-tests (probe-tests n mode bytes n) (λ m p. does (floor-answer (floor-of n mode bytes m p)) (reclaim-dead mode bytes p n) m p) m p Bound (λ k a. absurd (a turned-away)) (λ e a h. go (floor-of n mode bytes m p) (bounded e h))
+  abbrev limit-call : Call
+  limit-call m p = does (value (limit-at n mode bytes m p)) (reclaim-dead mode bytes p n) m p
+
+  -- At mark 0 it is a reader of the database file: the limit is at most the number of copied frames.
+  pub limit-copied : x ≡ 0 → accepted (after (copy-back-limit n mode bytes) m p .answer) → Stays (after (copy-back-limit n mode bytes) m p .memory) → (l : ℕ) × (after (copy-back-limit n mode bytes) m p .answer ≡ value l) × (l ≤ m .header .nbackfills)
+  unfolding copy-back-limit
+  limit-copied file =
+      by-tests (probe-tests n mode bytes n) limit-call m p Bound (λ k a. absurd (a turned-away)) (λ e a h. (limit-at n mode bytes m p, refl, go (db-file-is-read n mode bytes m p) refl h))
     where
       Bound : Done → Type 0
-      Bound d = accepted (d .answer) → Stays (d .memory) → (f : ℕ) × (d .answer ≡ frame-found f) × (f ≤ x)
+      Bound d = accepted (d .answer) → Stays (d .memory) → (l : ℕ) × (d .answer ≡ value l) × (l ≤ m .header .nbackfills)
 
-      go : (fl : Floor) → AtMost x fl → (f : ℕ) × (floor-answer fl ≡ frame-found f) × (f ≤ x)
-      go (Mark f) h = (f, refl, h)
-      go NoMark h = absurd h
+      test : ℕ → Bool
+      test j = live mode bytes p m j && eqb (getD (m .reader-frames) j unused) 0
 
-  pub limit-bound : accepted (after (copy-back-limit n mode bytes) m p .answer) → Stays (after (copy-back-limit n mode bytes) m p .memory) → (l : ℕ) × (after (copy-back-limit n mode bytes) m p .answer ≡ value l) × (l ≤ x)
-  unfolding copy-back-limit AtMost
-  limit-bound =
-      by-tests (probe-tests n mode bytes n) (λ m p. does (value (limit-of (m .header .«max_frame») (floor-of n mode bytes m p))) (reclaim-dead mode bytes p n) m p) m p Bound (λ k a. absurd (a turned-away)) (λ e a h. go (floor-of n mode bytes m p) (bounded e h))
-    where
-      Bound : Done → Type 0
-      Bound d = accepted (d .answer) → Stays (d .memory) → (l : ℕ) × (d .answer ≡ value l) × (l ≤ x)
+      here : Stays (apply (reclaim-dead mode bytes p n m) m) → test i ≡ true
+      here h = rw (is-live h, marked, eq-eqb x 0 file)
 
-      go : (fl : Floor) → AtMost x fl → (l : ℕ) × (value (limit-of (m .header .«max_frame») fl) ≡ value l) × (l ≤ x)
-      go (Mark f) h = (min (m .header .«max_frame») f, refl, (omega arith))
-      go NoMark h = absurd h
+      go : (is-read : Bool) → db-file-is-read n mode bytes m p ≡ is-read → Stays (apply (reclaim-dead mode bytes p n m) m) → held-back is-read (m .header .nbackfills) (limit-of (m .header .«max_frame») (floor-of n mode bytes m p)) ≤ m .header .nbackfills
+      go true e h = omega arith
+      go false e h = absurd (not-both (test i) (here h) (some-false test n 0 e i (omega arith) (omega arith)))
+
+  -- At a mark above 0 the floor exists and is at most it, and so is the limit.
+  module _ (some : 1 ≤ x) where
+    bounded : lowest (probe-tests n mode bytes n m p) ≡ 0 → Stays (apply (reclaim-dead mode bytes p n m) m) → AtMost x (floor-of n mode bytes m p)
+    bounded e h =
+        let t = none-applies (probe-tests n mode bytes n m p) e in
+        let r = enough-by n (length (m .bitmap)) (length (m .reader-frames)) (length (m .reader-owners)) (length (p .local-readers)) (t .0) (t .1 .0) in
+        floor-at-most mode bytes p m n i x below (is-live h) (getD-any (m .reader-frames) i 0 unused (omega arith) ∙ marked) (λ z. (omega arith))
+
+    pub floor-bound : accepted (after (min-active-reader-frame n mode bytes) m p .answer) → Stays (after (min-active-reader-frame n mode bytes) m p .memory) → (f : ℕ) × (after (min-active-reader-frame n mode bytes) m p .answer ≡ frame-found f) × (f ≤ x)
+    unfolding min-active-reader-frame AtMost
+    floor-bound =
+        by-tests (probe-tests n mode bytes n) (λ m p. does (floor-answer (floor-of n mode bytes m p)) (reclaim-dead mode bytes p n) m p) m p Bound (λ k a. absurd (a turned-away)) (λ e a h. go (floor-of n mode bytes m p) (bounded e h))
+      where
+        Bound : Done → Type 0
+        Bound d = accepted (d .answer) → Stays (d .memory) → (f : ℕ) × (d .answer ≡ frame-found f) × (f ≤ x)
+
+        go : (fl : Floor) → AtMost x fl → (f : ℕ) × (floor-answer fl ≡ frame-found f) × (f ≤ x)
+        go (Mark f) h = (f, refl, h)
+        go NoMark h = absurd h
+
+    pub limit-bound : accepted (after (copy-back-limit n mode bytes) m p .answer) → Stays (after (copy-back-limit n mode bytes) m p .memory) → (l : ℕ) × (after (copy-back-limit n mode bytes) m p .answer ≡ value l) × (l ≤ x)
+    unfolding copy-back-limit AtMost
+    limit-bound =
+        by-tests (probe-tests n mode bytes n) limit-call m p Bound (λ k a. absurd (a turned-away)) (λ e a h. (limit-at n mode bytes m p, refl, go (db-file-is-read n mode bytes m p) (floor-of n mode bytes m p) (bounded e h)))
+      where
+        Bound : Done → Type 0
+        Bound d = accepted (d .answer) → Stays (d .memory) → (l : ℕ) × (d .answer ≡ value l) × (l ≤ x)
+
+        -- a reader of the database file only lowers the limit
+        go : (is-read : Bool) (fl : Floor) → AtMost x fl → held-back is-read (m .header .nbackfills) (limit-of (m .header .«max_frame») fl) ≤ x
+        go true (Mark f) h = omega arith
+        go false (Mark f) h = omega arith
+        go true NoMark h = absurd h
+        go false NoMark h = absurd h

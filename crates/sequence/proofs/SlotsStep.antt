@@ -22,7 +22,7 @@ use Rattle.reader_moves.specs.Update.{update-tests, update-reader, release-test
 use Rattle.reader_floor.specs.Floor.{floor-of, floor-answer, probe-tests, reclaim-dead, min-active-reader-frame, has-active-db-file-reader, db-file-reader}
 use Rattle.reader_probe.specs.Live.{looked-at}
 use Rattle.reader_slots.specs.Search.{found-slot}
-use Rattle.reader_limit.specs.Limit.{limit-of, copy-back-limit}
+use Rattle.reader_limit.specs.Limit.{limit-at, copy-back-limit}
 use Rattle.reader_slots.proofs.Kept.{SlotSame, slot-same, emptied-other}
 use Rattle.reader_floor.proofs.Kept.{dead-keeps}
 use Rattle.reader_slots.proofs.Calls.{none-applies, neither-true}
@@ -108,7 +108,7 @@ module _ (n : ℕ) (mode : SharedWalOwnershipMode) (bytes : List ℕ) (m : Memor
 
   pub limit-step : Step n m p (after (copy-back-limit n mode bytes) m p) T E
   unfolding copy-back-limit
-  limit-step = probes (probe-tests n mode bytes n) (λ x q. value (limit-of (x .header .«max_frame») (floor-of n mode bytes x q))) (λ x q. n)
+  limit-step = probes (probe-tests n mode bytes n) (λ x q. value (limit-at n mode bytes x q)) (λ x q. n)
 
   pub db-reader-step : Step n m p (after (has-active-db-file-reader n mode bytes) m p) T E
   unfolding has-active-db-file-reader

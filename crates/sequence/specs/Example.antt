@@ -10,9 +10,10 @@ use Rattle.wal_types.specs.Memory.{Memory, Process, with-header, with-index, wi
 use Rattle.wal_types.specs.Fresh.{fresh-header}
 use Rattle.wal_types.specs.Call.{pair, Answer, refused, ok, value, stored, kept, frame-found, listed, slot-taken}
 use Rattle.index_find.specs.declared.find.Watermark.the-variants.{NoWatermark}
-use Rattle.sequence.specs.Sequence.{Settings, find-op, list-op, between-op, record-op, rollback-op, floor-op, limit-op, register-op, release-op, share-op, unshare-op, Op, look-op, index-op, commit-op, probe-op, slot-op, shared-op, World, Event, by, answer-of, next}
+use Rattle.sequence.specs.Sequence.{Settings, find-op, list-op, between-op, record-op, rollback-op, backfill-op, floor-op, limit-op, register-op, release-op, share-op, unshare-op, Op, look-op, index-op, commit-op, header-op, probe-op, slot-op, shared-op, World, Event, by, answer-of, next}
 use Rattle.sequence.specs.Hold.{direct, shared}
 use Rattle.sequence.specs.Statement.{at-now, Premises}
+use Rattle.sequence.specs.DbFileHold.{present, FilePremises}
 
 -- one block of entries, two reader slots
 abbrev pub small : Settings
@@ -104,6 +105,13 @@ during-shared = reader (shared-op (share-op 11 3 (1 ∷ 1 ∷ []))) ∷ reader (
 abbrev pub own-floor : Event
 own-floor = reader (probe-op (floor-op (1 ∷ 1 ∷ [])))
 
+-- A hold of the database file: process 0 registers at mark 0, two frames are copied, and the writer asks for the limit, slot 0 busy.
+abbrev pub begin-file : Event
+begin-file = reader (shared-op (share-op 10 0 (1 ∷ 1 ∷ [])))
+
+abbrev pub during-file : List Event
+during-file = writer (header-op (backfill-op 2)) ∷ []
+
 -- The answers are those of the book of three pairs, though page 7's newest frame is 5 and 5 is published.
 pub record Example : Type 0 where
   pub calls-answer :
@@ -127,3 +135,7 @@ pub record Example : Type 0 where
   pub shared-held : Premises small 1 fresh-world before begin-shared during-shared own-floor shared 0 3
   pub shared-floor-gives :
       answer-of small own-floor (at-now small 1 fresh-world before begin-shared during-shared own-floor shared 0 3) ≡ frame-found 3
+  pub file-calls-answer :
+      answers small (before ++ (begin-file ∷ during-file)) fresh-world ≡ stored ∷ stored ∷ stored ∷ ok ∷ slot-taken 0 10 0 ∷ ok ∷ []
+  pub file-held : FilePremises small 1 fresh-world before begin-file during-file limit shared 0
+  pub file-limit-gives : answer-of small limit (present small 1 fresh-world before begin-file during-file limit shared 0) ≡ value 2

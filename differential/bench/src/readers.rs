@@ -1,6 +1,6 @@
 //! The calls on readers: the sides, and what is measured.
 
-use calls::memory::{Memory, Settings, Slots, LINUX_OFD};
+use calls::memory::{Header, Memory, Settings, Slots, LINUX_OFD};
 use wal_coordination_sys::{self as sys, SharedReadMark, Slots as Lent};
 
 const OWNER: u64 = (7 << 32) + 1;
@@ -57,9 +57,9 @@ pub struct Port {
 }
 
 impl Port {
-    /// The slots, the published frame, the own cells and the card.
+    /// The slots, the header, the own cells and the card.
     #[inline]
-    fn lent(&mut self) -> (Lent<'_>, u64, &mut [u64], &mut [SharedReadMark], &[u8]) {
+    fn lent(&mut self) -> (Lent<'_>, &Header, &mut [u64], &mut [SharedReadMark], &[u8]) {
         let Memory { header, slots, processes, .. } = &mut self.memory;
         let own = &mut processes[0];
         let lent = Lent {
@@ -69,7 +69,7 @@ impl Port {
             reader_frames: &mut slots.frames,
             reader_owners: &mut slots.owners,
         };
-        (lent, header.max_frame, &mut own.local_owners, &mut own.registry, &self.card)
+        (lent, header, &mut own.local_owners, &mut own.registry, &self.card)
     }
 }
 
@@ -126,8 +126,8 @@ impl Side for Port {
 
     #[inline]
     fn limit(&mut self) -> u64 {
-        let (slots, max_frame, local_readers, _, card) = self.lent();
-        let reply = sys::copy_back_limit(slots, max_frame, local_readers, card);
+        let (slots, header, local_readers, _, card) = self.lent();
+        let reply = sys::copy_back_limit(slots, header, local_readers, card);
         assert_eq!(reply.refusal, 0);
         reply.limit
     }
@@ -186,7 +186,12 @@ macro_rules! rust_side {
             #[inline]
             fn limit(&mut self) -> u64 {
                 let published = self.0.max_frame();
-                self.0.min_active_reader_frame().map_or(published, |floor| floor.min(published))
+                let limit = self.0.min_active_reader_frame().map_or(published, |floor| floor.min(published));
+                // A host of the Rust asks a second time: its floor leaves mark 0 out.
+                match self.0.has_active_db_file_reader() {
+                    true => limit.min(self.0.nbackfills()),
+                    false => limit,
+                }
             }
 
             #[inline]

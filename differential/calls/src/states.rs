@@ -13,6 +13,8 @@ const FRAMES: [u64; 4] = [UNUSED, 0, 5, 7];
 const OWNERS: [u64; 3] = [0, A, B];
 /// The published frame, between the marks.
 const PUBLISHED: u64 = 6;
+/// The copied count: below the marks above 0, and above the published frame, where the limit alone is asked.
+const COPIED: [u64; 2] = [4, 9];
 /// Bit, frame, owner and local owner of a slot.
 const SLOT_STATES: usize = 2 * FRAMES.len() * OWNERS.len() * OWNERS.len();
 
@@ -25,21 +27,40 @@ pub struct Tally {
 /// Makes each call in each state, and compares the answers and every cell.
 pub fn run(sides: Sides) -> Result<Tally, Found> {
     let mut tally = Tally::default();
-    let (own_calls, calls) = (calls_on_slots(), calls_on_registry());
+    let [below, above] = COPIED;
     for mode in [LINUX_OFD, PROCESS_SCOPED_FCNTL] {
-        let opening = opening(mode);
+        let all = Round { copied: below, registries: &registries(), own: calls_on_slots(), calls: calls_on_registry() };
+        let limits = Round { copied: above, registries: &registries()[..1], own: limits().collect(), calls: vec![] };
+        for round in [all, limits] {
+            round.run(sides, mode, &mut tally)?;
+        }
+    }
+    Ok(tally)
+}
+
+/// A copied count, registries, and calls: those that do not look into the registry, and those that do.
+struct Round<'a> {
+    copied: u64,
+    registries: &'a [[Record; SLOTS]],
+    own: Vec<Line>,
+    calls: Vec<Line>,
+}
+
+impl Round<'_> {
+    fn run(&self, sides: Sides, mode: u32, tally: &mut Tally) -> Result<(), Found> {
+        let opening = opening(mode, self.copied);
         let mut session = Session::new(sides);
         opening
             .iter()
             .try_for_each(|line| session.step(line).map(drop))
             .map_err(|_| shortest(sides, opening.clone()))?;
         session.cells = Cells::AllButIndex;
-        for (number, registry) in registries().iter().enumerate() {
+        for (number, registry) in self.registries.iter().enumerate() {
             for slots in (0..SLOT_STATES * SLOT_STATES).map(|i| [i / SLOT_STATES, i % SLOT_STATES]) {
                 let state = State::new(slots, registry);
                 tally.states += 1;
                 // The registry counts for some calls only.
-                for line in own_calls.iter().filter(|_| number == 0).chain(&calls) {
+                for line in self.own.iter().filter(|_| number == 0).chain(&self.calls) {
                     session.set_readers(&state.slots, std::slice::from_ref(&state.own));
                     if session.step(line).is_err() {
                         let script = opening.iter().cloned().chain(state.lines()).chain([line.clone()]);
@@ -51,14 +72,15 @@ pub fn run(sides: Sides) -> Result<Tally, Found> {
         // No call wrote to the index.
         session.step(&Line::Dump { process: 0 }).map_err(|difference| Found { script: opening, difference })?;
         tally.calls += session.calls;
+        Ok(())
     }
-    Ok(tally)
 }
 
-fn opening(mode: u32) -> Vec<Line> {
+fn opening(mode: u32, nbackfills: u64) -> Vec<Line> {
     let settings = Settings { capacity: 1, max_blocks: 1, slots: SLOTS as u32, mode };
     let commit = Call::PublishCommit { max_frame: PUBLISHED, checksum_1: 1, checksum_2: 2, transaction_count: 3 };
-    vec![Line::New(New { settings, start_blocks: 1, processes: 1 }), line(commit)]
+    let new = Line::New(New { settings, start_blocks: 1, processes: 1 });
+    vec![new, line(commit), line(Call::PublishBackfill { nbackfills })]
 }
 
 struct State {
@@ -133,13 +155,17 @@ fn calls_on_slots() -> Vec<Line> {
             Call::RegisterReader { owner: A, mark: 5, card: card.clone() },
             Call::RegisterReader { owner: B, mark: 0, card: card.clone() },
             Call::MinActiveReaderFrame { card: card.clone() },
-            Call::HasActiveDbFileReader { card: card.clone() },
-            Call::CopyBackLimit { card },
+            Call::HasActiveDbFileReader { card },
         ]
     });
     let refused = [(0, 5, vec![1, 1]), (A, UNUSED, vec![1, 1]), (A, 5, vec![1]), (A, 5, vec![1, 3])]
         .map(|(owner, mark, card)| Call::RegisterReader { owner, mark, card });
-    with_card.chain(refused).map(line).collect()
+    with_card.chain(refused).map(line).chain(limits()).collect()
+}
+
+/// The copy-back limit with every card.
+fn limits() -> impl Iterator<Item = Line> {
+    cards().map(|card| line(Call::CopyBackLimit { card }))
 }
 
 /// Calls that do.

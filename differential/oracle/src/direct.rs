@@ -80,6 +80,11 @@ impl Direct {
     }
 
     #[inline]
+    pub fn nbackfills(&self) -> u64 {
+        self.0.nbackfills()
+    }
+
+    #[inline]
     pub fn register_reader(&self, owner: u64, mark: u64) -> Option<u32> {
         self.0.register_reader(owner, mark).map(|(slot, ..)| slot)
     }

@@ -221,6 +221,10 @@ impl Process {
         self.0.header().max_frame.load(Ordering::Acquire)
     }
 
+    pub(crate) fn nbackfills(&self) -> u64 {
+        self.0.header().nbackfills.load(Ordering::Acquire)
+    }
+
     /// In LinuxOfd, where only a count says that a slot is held.
     pub(crate) fn forget_reader(&self, slot: u32) {
         self.0.with_local_lock_state(|locks| locks.reader_locks[slot as usize] = 0);

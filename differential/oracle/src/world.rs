@@ -173,10 +173,13 @@ impl World {
             }
             Call::MinActiveReaderFrame { .. } => frame_or_nothing(rust.min_active_reader_frame()),
             Call::HasActiveDbFileReader { .. } => Answer::Active(rust.has_active_db_file_reader()),
-            // The port's own call: document 01 gives it from the floor.
+            // The port's own call: documents 01 and 02 give it from the floor, and from the copied count while a slot
+            // with mark 0 is live. Which are live the Rust says: its floor has reclaimed the dead ones.
             Call::CopyBackLimit { .. } => {
-                let published = before.max_frame;
-                Answer::Limit(rust.min_active_reader_frame().map_or(published, |floor| floor.min(published)))
+                let floor = rust.min_active_reader_frame();
+                let copied = rust.has_active_db_file_reader().then_some(before.nbackfills);
+                let held_back = [floor, copied].into_iter().flatten();
+                Answer::Limit(held_back.fold(before.max_frame, u64::min))
             }
             Call::TryAcquireWriter { owner, .. } => Answer::Acquired(rust.try_acquire_writer(owner)),
             Call::TryAcquireCheckpoint { owner, .. } => Answer::Acquired(rust.try_acquire_checkpoint(owner)),

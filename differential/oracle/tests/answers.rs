@@ -155,6 +155,8 @@ fn readers_of_linux_ofd() {
          limit 0 000 => limit 0
          commit 0 9 0 0 0
          limit 0 000 => limit 4
+         backfill 0 3
+         limit 0 000 => limit 4
          floor 0 100 => frame 5
          rel 1 0 7 => refused 8
          rel 0 0 7 => refused 7

@@ -3,12 +3,12 @@
 use calls::memory::Record;
 use calls::script::Answer;
 use calls::sides::{Given, Parts};
-use wal_coordination_sys::{self as sys, DbFileReply, FloorReply, LimitReply, ReaderReply, Slots};
+use wal_coordination_sys::{self as sys, DbFileReply, FloorReply, Header, LimitReply, ReaderReply, Slots};
 
 /// What a call on readers is given.
 pub(crate) struct Lent<'a> {
     slots: Slots<'a>,
-    max_frame: u64,
+    header: &'a Header,
     locals: &'a mut [u64],
     registry: &'a mut [Record],
 }
@@ -18,7 +18,7 @@ impl<'a> Lent<'a> {
         let (n, mode) = (g.settings.slots as usize, g.settings.mode);
         let Parts { header, bitmap, slot_frames, slot_owners, local_owners: locals, registry, .. } = g.parts();
         let slots = Slots { n, mode, bitmap, reader_frames: slot_frames, reader_owners: slot_owners };
-        Self { slots, max_frame: header.max_frame, locals, registry }
+        Self { slots, header, locals, registry }
     }
 
     pub(crate) fn register(self, owner: u64, mark: u64, card: &[u8]) -> Answer {
@@ -61,7 +61,7 @@ impl<'a> Lent<'a> {
     }
 
     pub(crate) fn limit(self, card: &[u8]) -> Answer {
-        let LimitReply { refusal, limit } = sys::copy_back_limit(self.slots, self.max_frame, self.locals, card);
+        let LimitReply { refusal, limit } = sys::copy_back_limit(self.slots, self.header, self.locals, card);
         answer(refusal, &[limit], || Some(Answer::Limit(limit)))
     }
 }

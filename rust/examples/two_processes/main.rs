@@ -144,15 +144,12 @@ fn serve(path: &Path) -> std::io::Result<()> {
 }
 
 /// Copies frames back, as far as readers allow, and publishes how many are copied: all in one turn, under the
-/// checkpoint lock. Nothing new is copied while a reader reads the database file alone, or if one of the two questions
-/// is refused.
+/// checkpoint lock. While a reader reads the database file alone, the limit is not above what is copied already; nothing
+/// new is copied then, or if the limit is refused.
 fn copy_back(process: &mut Process<OfdLocks>, memory: &mut Memory<'_>) -> Result<String, Refusal> {
-    if process.has_active_db_file_reader(memory)? {
-        return Ok("nothing copied: the database file is read".into());
-    }
     let limit = process.copy_back_limit(memory)?;
-    // Here a host copies the frames nbackfills + 1 to limit into the database file, and syncs it.
     if limit > memory.header.nbackfills {
+        // Here a host copies the frames nbackfills + 1 to limit into the database file, and syncs it.
         process.publish_backfill(memory, limit);
     }
     Ok(format!("{} copied", memory.header.nbackfills))

@@ -1,4 +1,4 @@
-use Rattle.reader_limit.proofs.Limited.{no-floor}
+use Rattle.reader_floor.proofs.Floored.{no-floor}
 use borrow.Author.Needs.{needs}
 use Rattle.c_reader_replies.proofs.floor_told.Statement.{statement}
 use Rattle.c_reader_replies.proofs.floor_told.Tie as tie

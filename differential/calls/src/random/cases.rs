@@ -212,7 +212,9 @@ impl Case {
             Call::MinActiveReaderFrame { ref card } | Call::HasActiveDbFileReader { ref card } => {
                 numbers_of(card).into()
             }
-            Call::CopyBackLimit { ref card } => [numbers_of(card).as_slice(), &[self.header.max_frame]].concat(),
+            Call::CopyBackLimit { ref card } => {
+                [numbers_of(card).as_slice(), &[self.header.max_frame, self.header.nbackfills]].concat()
+            }
             _ => vec![],
         });
         row
@@ -241,7 +243,9 @@ impl Case {
                 let (cell, value) = (OwnCell::LocalOwner, self.local_owners[slot]);
                 lines.push(Line::Own { process: 0, cell, index: slot as u64, value });
             }
-            lines.push(poke(SharedCell::Header(HeaderCell::MaxFrame), 0, self.header.max_frame));
+            for cell in [HeaderCell::MaxFrame, HeaderCell::Nback] {
+                lines.push(poke(SharedCell::Header(cell), 0, cell.of(&self.header)));
+            }
         } else {
             lines.extend(HEADER.map(|cell| poke(SharedCell::Header(cell), 0, cell.of(&self.header))));
         }

@@ -92,7 +92,7 @@ impl Maker<'_> {
 
     pub(super) fn reader_line(&mut self, view: &dyn View, settings: &Settings) -> Line {
         let process = self.process(view);
-        let call = match self.dice.below(22) {
+        let call = match self.dice.below(24) {
             0..=5 => {
                 let (owner, mark) = (self.owner(), self.mark());
                 Call::RegisterReader { owner, mark, card: self.card(view, settings, process) }
@@ -107,9 +107,10 @@ impl Maker<'_> {
                 Call::UpdateReader { slot, owner, mark: self.mark() }
             }
             12 | 13 => Call::MinActiveReaderFrame { card: self.card(view, settings, process) },
-            14 => Call::CopyBackLimit { card: self.card(view, settings, process) },
-            15 | 16 => Call::HasActiveDbFileReader { card: self.card(view, settings, process) },
-            17 => Call::PublishCommit { max_frame: self.mark(), checksum_1: 1, checksum_2: 2, transaction_count: 3 },
+            14 | 15 => Call::CopyBackLimit { card: self.card(view, settings, process) },
+            16 | 17 => Call::HasActiveDbFileReader { card: self.card(view, settings, process) },
+            18 => Call::PublishCommit { max_frame: self.mark(), checksum_1: 1, checksum_2: 2, transaction_count: 3 },
+            19 => Call::PublishBackfill { nbackfills: self.mark() },
             _ => return self.damage_slots(view, process),
         };
         Line::Call { process, call }

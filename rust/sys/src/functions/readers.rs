@@ -1,6 +1,6 @@
 //! Reader slots, shared marks, the floor and the copy-back limit.
 
-use crate::SharedReadMark;
+use crate::{Header, SharedReadMark};
 
 /// What a call on reader slots is given: its settings, and the slots.
 #[derive(Debug)]
@@ -199,6 +199,7 @@ extern "C" {
         n: usize,
         mode: u32,
         max_frame: u64,
+        nbackfills: u64,
         bitmap: *mut u64,
         bitmap_len: usize,
         reader_frames: *mut u64,
@@ -306,9 +307,10 @@ pub fn has_active_db_file_reader(slots: Slots<'_>, local_readers: &[u64], card: 
     wal!(wal_has_active_db_file_reader, [n, mode], [bitmap, frames, owners], [local_readers, card], [])
 }
 
-/// `wal_copy_back_limit`.
+/// `wal_copy_back_limit`. Of the header it is given `max_frame` and `nbackfills`.
 #[inline]
-pub fn copy_back_limit(slots: Slots<'_>, max_frame: u64, local_readers: &[u64], card: &[u8]) -> LimitReply {
+pub fn copy_back_limit(slots: Slots<'_>, header: &Header, local_readers: &[u64], card: &[u8]) -> LimitReply {
     let Slots { n, mode, bitmap, reader_frames: frames, reader_owners: owners } = slots;
-    wal!(wal_copy_back_limit, [n, mode, max_frame], [bitmap, frames, owners], [local_readers, card], [])
+    let Header { max_frame, nbackfills, .. } = *header;
+    wal!(wal_copy_back_limit, [n, mode, max_frame, nbackfills], [bitmap, frames, owners], [local_readers, card], [])
 }

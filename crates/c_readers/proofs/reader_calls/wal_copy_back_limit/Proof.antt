@@ -26,7 +26,7 @@ same-length-3 c = search needs
 returns : tie.Need-returns
 returns c =
     let a = c .before .before .before .before .before .before .before .before .before .before .before .before .before .before .before .before .before .args in
-    limit-told limit-reply (λ n mode. copy-back-limit n mode (a .card .now)) (limit-needs-slots (a .card .now)) (a .mode) (a .n) _ (c .before .before .before .before .before .before .before .before .before .before .before .settings-of .ensures) (limit-answer (c .before .before .before .before .before .before .before .copy-back-limit .result)) _ (c .limit-told .ensures) _ _ _ _ _ _ _ _ (c .before .before .before .before .before .before .before .copy-back-limit .ensures)
+    limit-told limit-reply (λ n mode. copy-back-limit n mode (a .card .now)) (limit-needs-slots (a .card .now)) (a .mode) (a .n) _ (c .before .before .before .before .before .before .before .before .before .before .before .settings-of .ensures) (limit-answer (c .before .before .before .before .before .before .before .copy-back-limit .result)) _ (c .limit-told .ensures) _ _ _ _ _ _ _ _ _ (c .before .before .before .before .before .before .before .copy-back-limit .ensures)
 
 pub wal-copy-back-limit-spec : {M : Type 1} → statement M
 wal-copy-back-limit-spec =
