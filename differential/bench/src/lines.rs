@@ -164,5 +164,7 @@ fn readers(table: &mut Table, n: u32) {
         line(&format!("floor, {live} live"), Slots::new(n, live), Work::Floor);
     }
     line(&format!("copy-back limit, {many} live"), Slots::new(n, many), Work::Limit);
+    let db_file = Slots::new(n, many).with_db_file_reader();
+    line(&format!("copy-back limit, {many} live, one of the database file"), db_file, Work::Limit);
     line(&format!("has_active_db_file_reader, {many} live"), Slots::new(n, many), Work::DbFileReader);
 }

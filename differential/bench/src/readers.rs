@@ -23,6 +23,12 @@ impl Table {
         Self { settings, slots, card }
     }
 
+    /// Its first slot's reader reads the database file alone.
+    pub fn with_db_file_reader(mut self) -> Self {
+        self.slots.frames[0] = 0;
+        self
+    }
+
     /// Its last slot belongs to a process that is gone.
     pub fn with_stale_last(mut self) -> Self {
         take(&mut self.slots, self.settings.slots as usize - 1);
