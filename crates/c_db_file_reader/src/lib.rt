@@ -2,6 +2,8 @@
 // for its machine code: the compiler makes one function of a call and all that it calls where each has one caller in its
 // crate's object file. With a second caller there, every shared registration passed its slices on through the stack and took up
 // to twice as long.
+#![tactic(auto)]
+
 ghost use Rattle.reader_shared.specs.Shared.{register_db_file_reader};
 ghost use Rattle.c_numbers.specs.Mode.{mode_given, with_mode};
 ghost use Rattle.c_reader_replies.specs.ReaderReply.{reader_reply};

@@ -1,2 +1,4 @@
 // The lock calls' answers in numbers, for the C functions.
+#![tactic(auto)]
+
 pub mod lock_reply;

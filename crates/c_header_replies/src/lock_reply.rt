@@ -14,7 +14,7 @@ use wal_types::{Header, SharedOwnerRecord, refusal};
 // A lock call's answer in numbers. refusal: 0, or the number of the refusal. answer: 1 if the lock was taken or
 // released, else 0. local_owner is as the call leaves it: after a refusal, as it was given.
 #[repr(C)]
-#[derive(Drop)]
+#[derive(Clone, Copy)]
 pub struct LockReply {
     pub refusal: u32,
     pub answer: u32,
@@ -23,7 +23,7 @@ pub struct LockReply {
 
 // The header that a lock call leaves, whether it is another than before, and the reply. At most the lock's cell is set: the
 // rest of the header stays in place when the C function stores it.
-#[derive(Drop)]
+#[derive(Clone, Copy)]
 pub struct LockLeft {
     pub header: Header,
     pub changes: bool,

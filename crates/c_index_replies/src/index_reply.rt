@@ -16,14 +16,14 @@ use wal_types::Header;
 // The answer of a record or a rollback in numbers. refusal: 0, or the number of the refusal. answer: 1 stored, 0 dropped;
 // for a rollback the kept length.
 #[repr(C)]
-#[derive(Drop)]
+#[derive(Clone, Copy)]
 pub struct IndexReply {
     pub refusal: u32,
     pub answer: u32,
 }
 
 // The reply, the index's cells of the header as the call leaves them, and whether one of them changes.
-#[derive(Drop)]
+#[derive(Clone, Copy)]
 pub struct IndexDone {
     pub reply: IndexReply,
     pub cells: IndexCells,
@@ -31,7 +31,7 @@ pub struct IndexDone {
 }
 
 // The header that such a call leaves, whether it is another than before, and the reply.
-#[derive(Drop)]
+#[derive(Clone, Copy)]
 pub struct IndexLeft {
     pub header: Header,
     pub changes: bool,

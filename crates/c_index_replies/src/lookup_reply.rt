@@ -8,7 +8,7 @@ use list_latest::ListAnswer;
 
 // The answer of a lookup in numbers. found: 1 if there is a frame. cells: how many hash cells were looked at.
 #[repr(C)]
-#[derive(Drop)]
+#[derive(Clone, Copy)]
 pub struct FindReply {
     pub refusal: u32,
     pub found: u32,
@@ -18,7 +18,7 @@ pub struct FindReply {
 
 // The answer of a list in numbers: how many pairs are in the first output cells.
 #[repr(C)]
-#[derive(Drop)]
+#[derive(Clone, Copy)]
 pub struct ListReply {
     pub refusal: u32,
     pub count: u64,

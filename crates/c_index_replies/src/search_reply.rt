@@ -7,7 +7,7 @@ use index_scan::ScanAnswer;
 
 // found: 1 if there is a frame, and then frame is it; else both are 0.
 #[repr(C)]
-#[derive(Drop)]
+#[derive(Clone, Copy)]
 pub struct FrameReply {
     pub refusal: u32,
     pub found: u32,

@@ -1,11 +1,13 @@
 // What the C functions share: a lock mode as a number, and answers as numbers.
+#![tactic(auto)]
+
 ghost use Rattle.std.specs.Prelude.{◌≡◌};
 ghost use Rattle.c_numbers.specs.Mode.{mode_given};
 
 use wal_types::SharedWalOwnershipMode;
 
 // A lock mode read from its number.
-#[derive(Drop)]
+#[derive(Clone, Copy)]
 pub enum Mode {
     Given(SharedWalOwnershipMode),
     Unknown,

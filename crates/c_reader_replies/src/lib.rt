@@ -1,4 +1,6 @@
 // The reader calls' answers in numbers, for the C functions: the replies, and the settings read from numbers.
+#![tactic(auto)]
+
 ghost use Rattle.std.specs.Prelude.{◌≡◌};
 ghost use Rattle.wal_types.specs.Call.{slot_taken};
 ghost use Rattle.reader_register.specs.Register.{register_answer};
@@ -22,7 +24,7 @@ use wal_types::{SharedOwnerRecord, SharedWalOwnershipMode, refusal};
 // The answer of a registration or a move in numbers. refusal: 0, or the number of the refusal. taken: 1 if a slot is held,
 // and then slot, owner and mark are its number, its owner and its mark; else 0, and they are 0.
 #[repr(C)]
-#[derive(Drop)]
+#[derive(Clone, Copy)]
 pub struct ReaderReply {
     pub refusal: u32,
     pub taken: u32,
@@ -33,7 +35,7 @@ pub struct ReaderReply {
 
 // The answer of the floor in numbers. found: 1 if there is a floor, and then mark is it; else 0.
 #[repr(C)]
-#[derive(Drop)]
+#[derive(Clone, Copy)]
 pub struct FloorReply {
     pub refusal: u32,
     pub found: u32,
@@ -42,7 +44,7 @@ pub struct FloorReply {
 
 // active: 1 if some reader reads only the database file.
 #[repr(C)]
-#[derive(Drop)]
+#[derive(Clone, Copy)]
 pub struct DbFileReply {
     pub refusal: u32,
     pub active: u32,
@@ -50,7 +52,7 @@ pub struct DbFileReply {
 
 // The answer of the copy-back limit in numbers. limit is the last frame that may be copied, 0 after a refusal.
 #[repr(C)]
-#[derive(Drop)]
+#[derive(Clone, Copy)]
 pub struct LimitReply {
     pub refusal: u32,
     pub limit: u64,
@@ -58,7 +60,7 @@ pub struct LimitReply {
 
 // What a shared registration does to the registry, as in its plan: the places of the record that it retains and of the one
 // that it publishes for the slot, each past the end for none. And its reply.
-#[derive(Drop)]
+#[derive(Clone, Copy)]
 pub struct ShareStep {
     pub retained: usize,
     pub published: usize,
@@ -67,14 +69,14 @@ pub struct ShareStep {
 }
 
 // The same of a shared release: the place of the record that it releases. refusal is 0 or the number of the refusal.
-#[derive(Drop)]
+#[derive(Clone, Copy)]
 pub struct UnshareStep {
     pub released: usize,
     pub refusal: u32,
 }
 
 // The number of slots and the lock mode.
-#[derive(Drop)]
+#[derive(Clone, Copy)]
 pub struct Settings {
     pub n: usize,
     pub mode: SharedWalOwnershipMode,

@@ -1,4 +1,6 @@
 // The C functions of the reader calls. Each reads its numbers, makes one proved call and writes the answer as numbers. Those
 // on the registry are short: they look at the registry, take the step that follows from what they saw, and store a record.
+#![tactic(auto)]
+
 pub mod reader_calls;
 pub mod registry_steps;

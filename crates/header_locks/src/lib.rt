@@ -1,6 +1,8 @@
 // The writer and the checkpoint lock. A call is given this process's own cell for the lock and, to acquire, the answer of
 // the byte lock: 0 busy, 1 granted, 2 error. It answers what goes into the lock's two cells: the shared one, which is the
 // header's, and the own one.
+#![tactic(auto)]
+
 ghost use Rattle.std.specs.Prelude.{◌≡◌, false, not, ◌&&◌, eqb};
 ghost use Rattle.wal_types.specs.Memory.{header_with};
 ghost use Rattle.wal_types.specs.Settings.{is_fcntl};
@@ -9,14 +11,14 @@ ghost use Rattle.header_locks.specs.Locks.{owner_cell, try_acquire, release, Acq
 
 use wal_types::{Header, SharedOwnerRecord, SharedWalOwnershipMode, refusal};
 
-#[derive(Drop)]
+#[derive(Clone, Copy)]
 pub enum Lock {
     Writer,
     Checkpoint,
 }
 
 // Taken: the owner goes into both cells. Busy and Refused change nothing.
-#[derive(Drop)]
+#[derive(Clone, Copy)]
 pub enum LockAcquire {
     Taken(SharedOwnerRecord),
     Busy,
@@ -24,7 +26,7 @@ pub enum LockAcquire {
 }
 
 // Released: both cells become 0. Refused changes nothing.
-#[derive(Drop)]
+#[derive(Clone, Copy)]
 pub enum LockRelease {
     Released,
     Refused(u32),

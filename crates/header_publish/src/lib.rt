@@ -1,4 +1,6 @@
 // Publishes and bumps. The header goes in by value and comes back.
+#![tactic(auto)]
+
 ghost use Rattle.std.specs.Prelude.{◌≡◌, max, not, ◌==◌};
 ghost use Rattle.wal_types.specs.Call.{ok, value};
 ghost use Rattle.header_publish.specs.Publish.{publish_commit, publish_backfill, bump_checkpoint_seq, bump_checkpoint_epoch, HeaderCall};
@@ -7,7 +9,7 @@ use wal_types::Header;
 
 // A counter's number, with the header after its bump.
 #[repr(C)]
-#[derive(Drop)]
+#[derive(Clone, Copy)]
 pub struct Bumped {
     pub header: Header,
     pub value: u32,

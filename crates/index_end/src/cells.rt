@@ -8,7 +8,7 @@ use wal_types::Header;
 // The calls answer these and no header, so the rest of it stays as it was. The published frame, max_frame, is only read.
 // (With it the struct is too wide for a pair of registers. Packed into one, cells that were just stored would be read
 // as parts of a wider word, and a call would wait for the stores of the one before.)
-#[derive(Drop)]
+#[derive(Clone, Copy)]
 pub struct IndexCells {
     pub frame_index_blocks: u32,
     pub frame_index_len: u32,

@@ -9,7 +9,7 @@ use crate::cells::IndexCells;
 use wal_types::{FRAME_INDEX_BLOCK_CAPACITY, Header};
 
 // Where an entry goes: at the end of the index of these cells, whose blocks may have grown; or nowhere.
-#[derive(Drop)]
+#[derive(Clone, Copy)]
 pub enum Place {
     AtEnd(IndexCells),
     NoPlace,

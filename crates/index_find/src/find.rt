@@ -17,7 +17,7 @@ use wal_types::Header;
 const LAST_PLACE: usize = BLOCK_ENTRIES - 1;
 
 // A watermark narrows the upper bound, and opens the lower one.
-#[derive(Drop)]
+#[derive(Clone, Copy)]
 pub enum Watermark {
     UpTo(u64),
     NoWatermark,
@@ -42,14 +42,14 @@ pub fn visible_frame_index_slots(frames: &[u64], len: usize, max_frame: u64) -> 
 }
 
 // A frame found, or none.
-#[derive(Drop)]
+#[derive(Clone, Copy)]
 pub enum Lookup {
     Frame(u64),
     NoFrame,
 }
 
 // What the blocks tell: the frame found, or none, and how many hash cells were looked at.
-#[derive(Drop)]
+#[derive(Clone, Copy)]
 pub struct Looked {
     pub found: Lookup,
     pub cells: usize,
@@ -57,7 +57,7 @@ pub struct Looked {
 
 // What the near cells of the blocks tell, with the cells that were looked at: the frame, or that there is none; or that the
 // first so many blocks are left, of which the last has further cells.
-#[derive(Drop)]
+#[derive(Clone, Copy)]
 pub enum NearBlocks {
     Found(u64, usize),
     NotFound(usize),
@@ -65,7 +65,7 @@ pub enum NearBlocks {
 }
 
 // Nothing changes: the answer alone, and how many hash cells were looked at.
-#[derive(Drop)]
+#[derive(Clone, Copy)]
 pub enum FindAnswer {
     Frame(u64, u32),
     NoFrame(u32),

@@ -1,6 +1,8 @@
 // One block's hash table: open addressing with linear probing over the block's 8,192 cells, lent as a part that starts at
 // the block's first cell. A cell holds a place in the block + 1, or 0 for empty. Here is what is done cell by cell;
 // `index_search` looks at many cells at once, and `index_rebuild` builds a table anew.
+#![tactic(auto)]
+
 ghost use Rattle.std.specs.Prelude.{◌≡◌, ◌+◌, ◌*◌, ◌%◌, ◌<◌, ◌≤◌, length, set};
 ghost use Rattle.wal_types.specs.Settings.{block_entries, block_cells};
 ghost use Rattle.index_hash.specs.Home.{home};
@@ -16,14 +18,14 @@ pub const BLOCK_CELLS: usize = FRAME_INDEX_BLOCK_HASH_SLOTS as usize;
 const HASH_SLOTS: u64 = FRAME_INDEX_BLOCK_HASH_SLOTS as u64;
 
 // Where an entry goes: an empty cell, or none is left.
-#[derive(Drop)]
+#[derive(Clone, Copy)]
 pub enum Cell {
     Empty(usize),
     Full,
 }
 
 // What a probe finds: the place of the page's latest visible entry.
-#[derive(Drop)]
+#[derive(Clone, Copy)]
 pub enum Probe {
     At(usize),
     Nothing,

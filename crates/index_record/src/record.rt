@@ -14,7 +14,7 @@ use index_find::index;
 use index_hash::{BLOCK_ENTRIES, Cell};
 use wal_types::{Header, refusal};
 
-#[derive(Drop)]
+#[derive(Clone, Copy)]
 pub enum RecordAnswer {
     Stored,
     Dropped,
@@ -22,7 +22,7 @@ pub enum RecordAnswer {
 }
 
 // The answer, and the index's cells of the header as the call leaves them. Refused changes nothing.
-#[derive(Drop)]
+#[derive(Clone, Copy)]
 pub struct Recorded {
     pub answer: RecordAnswer,
     pub cells: IndexCells,
@@ -30,7 +30,7 @@ pub struct Recorded {
 
 // What a record is to do: write the first entry of a block, or another one in the cell found for it, at the end of the
 // index of these cells; leave these cells, with the flag set; or be refused.
-#[derive(Drop)]
+#[derive(Clone, Copy)]
 pub enum Plan {
     First(IndexCells),
     Next(IndexCells, usize),

@@ -10,14 +10,14 @@ use index_hash::BLOCK_ENTRIES;
 use wal_types::Header;
 
 // Kept has the kept length.
-#[derive(Drop)]
+#[derive(Clone, Copy)]
 pub enum RollbackAnswer {
     Kept(u32),
     Refused(u32),
 }
 
 // The answer, and the index's cells of the header as the call leaves them. Refused changes nothing.
-#[derive(Drop)]
+#[derive(Clone, Copy)]
 pub struct RolledBack {
     pub answer: RollbackAnswer,
     pub cells: IndexCells,

@@ -16,14 +16,14 @@ const NEAR_CELLS: usize = 24;
 const LOOK: usize = 8;
 
 // What a probe tells: the entry found, and how many cells it looked at, the one that ended it too.
-#[derive(Drop)]
+#[derive(Clone, Copy)]
 pub struct Probed {
     pub found: Probe,
     pub cells: usize,
 }
 
 // What the near cells tell: the answer of the probe that ends among them, or that there are further ones.
-#[derive(Drop)]
+#[derive(Clone, Copy)]
 pub enum Near {
     Ended(Probed),
     Further,

@@ -1,6 +1,8 @@
 // iter_latest_frames: each page's latest entry with a frame of at most max, listed if its frame is at least min, by rising
 // page. The entries that the hash names are gathered from the last down, sorted by page, and the first of each page is taken.
 // All of it is counted before the first output cell is written: a list that is refused for too few of them (5) has written none.
+#![tactic(auto)]
+
 ghost use Rattle.std.specs.Prelude.{◌≡◌, ◌+◌, ◌*◌, ◌/◌, ◌≤◌, length, take};
 ghost use Rattle.wal_types.specs.Settings.{block_entries, block_cells};
 ghost use Rattle.wal_types.specs.Memory.{Memory, Process};
@@ -16,7 +18,7 @@ use list_choose::choose;
 use list_gather::gather;
 use wal_types::{Header, refusal};
 
-#[derive(Drop)]
+#[derive(Clone, Copy)]
 pub enum ListAnswer {
     // As many pairs, in the first output cells.
     Pairs(usize),

@@ -3,7 +3,7 @@ ghost use Rattle.std.specs.Prelude.{◌≡◌, [], ◌∷◌, ◌++◌, ◌+◌,
 ghost use Rattle.program_columns.specs.Answer.{column_before, columns_before, in_columns, answer_columns, answer_line, pair_line, other_form_line};
 
 // What stands in an answer's 12 columns. Blank: nothing was found, or the call was refused.
-#[derive(Drop)]
+#[derive(Clone, Copy)]
 pub enum Answer {
     Value(u64),
     Blank,

@@ -4,7 +4,7 @@ ghost use Rattle.program_columns.specs.Request.{has_form, field_at, record_of, r
 
 use crate::field::{Field, read_field};
 
-#[derive(Drop)]
+#[derive(Clone, Copy)]
 pub enum Request {
     // R page frame
     Record(u64, u64),

@@ -1,5 +1,7 @@
 // Reads calls on the frame index from standard input, a line in fixed columns for each, and writes the answers to
 // standard output (document 01, "Program and its columns"). The index stands in arrays of `main` and is lent as slices.
+#![tactic(auto)]
+
 mod calls;
 mod input;
 mod output;

@@ -1,7 +1,7 @@
 // A line is a row of fields with one space between two of them.
 
 // What a field says as a number.
-#[derive(Drop)]
+#[derive(Clone, Copy)]
 pub enum Number {
     Value(u64),
     Bad,

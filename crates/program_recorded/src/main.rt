@@ -5,6 +5,8 @@
 //
 // Calls that are lent the registry of shared marks are not here: their recorded answers are held against the static
 // library (./compare --recorded).
+#![tactic(auto)]
+
 mod calls;
 mod header_calls;
 mod reader_calls;

@@ -1,6 +1,8 @@
 // Holds the page hash against a block of a wal-index that SQLite wrote. Standard input has the block as text: the pages
 // of its entries in order, one to a line, then each used hash cell with its value. The block's hash is rebuilt from the
 // pages, and all 8,192 cells are compared. A line that starts with # is a comment.
+#![tactic(auto)]
+
 mod block;
 
 use libc::{STDIN_FILENO, STDOUT_FILENO};

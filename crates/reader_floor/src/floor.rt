@@ -13,7 +13,7 @@ use reader_slots::slots;
 use wal_types::SharedWalOwnershipMode;
 
 // Floor is the least mark above 0 that is held, NoFloor that there is none. Refused changes nothing.
-#[derive(Drop)]
+#[derive(Clone, Copy)]
 pub enum MinFrame {
     Floor(u64),
     NoFloor,
@@ -21,7 +21,7 @@ pub enum MinFrame {
 }
 
 // Whether some reader reads only the database file. Refused changes nothing.
-#[derive(Drop)]
+#[derive(Clone, Copy)]
 pub enum DbFileReader {
     Active,
     NoneActive,

@@ -1,2 +1,4 @@
 // The copy-back limit.
+#![tactic(auto)]
+
 pub mod limit;

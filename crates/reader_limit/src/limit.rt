@@ -9,7 +9,7 @@ use reader_probe::live::Floor;
 use wal_types::SharedWalOwnershipMode;
 
 // Upto is the last frame that may be copied. Refused changes nothing.
-#[derive(Drop)]
+#[derive(Clone, Copy)]
 pub enum Limit {
     Upto(u64),
     Refused(u32),

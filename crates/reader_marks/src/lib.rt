@@ -1,5 +1,7 @@
 // One record of the registry of shared marks: whether a scan wants it, what a scan tells, and the record with a holder more
 // or less. The registry has a record for each mark that connections of this process share.
+#![tactic(auto)]
+
 ghost use Rattle.std.specs.Prelude.{◌≡◌, ◌&&◌, cond, ltb};
 ghost use Rattle.reader_marks.specs.declared.Wanted.TheVariants.{Mark, Slot, Empty};
 ghost use Rattle.reader_marks.specs.Registry.{is_empty, one_less};
@@ -12,14 +14,14 @@ use wal_types::{SharedOwnerRecord, SharedReadMark};
 pub const MOST_HOLDERS: u32 = 65535;
 
 // A record of the registry found, or none.
-#[derive(Drop)]
+#[derive(Clone, Copy)]
 pub enum Record {
     At(usize),
     Nothing,
 }
 
 // What a scan looks for: the record of a mark, that of a slot, or an empty one.
-#[derive(Drop)]
+#[derive(Clone, Copy)]
 pub enum Wanted {
     Mark(u64),
     Slot(usize),
@@ -28,7 +30,7 @@ pub enum Wanted {
 
 // What a registration or a release asks of the registry: the record of a mark and its contents and, where there is none, the
 // first empty record.
-#[derive(Drop)]
+#[derive(Clone, Copy)]
 pub struct Seen {
     pub place: Record,
     pub item: SharedReadMark,

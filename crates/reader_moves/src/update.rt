@@ -12,14 +12,14 @@ use reader_slots::slots;
 use wal_types::{SharedOwnerRecord, SharedWalOwnershipMode, UNOWNED_LOCK, refusal};
 
 // Moved: the slot has the mark. Refused changes nothing.
-#[derive(Drop)]
+#[derive(Clone, Copy)]
 pub enum Update {
     Moved,
     Refused(u32),
 }
 
 // Released: the slot is empty. Refused changes nothing.
-#[derive(Drop)]
+#[derive(Clone, Copy)]
 pub enum Release {
     Released,
     Refused(u32),

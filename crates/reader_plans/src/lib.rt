@@ -1,4 +1,6 @@
 // A shared registration and a shared release, by what is seen of the registry.
+#![tactic(auto)]
+
 ghost use Rattle.reader_moves.specs.Update.{release_answer};
 ghost use Rattle.reader_marks.specs.InnerChange.{retained, published, released};
 ghost use Rattle.reader_shared.specs.Shared.{register_reader_for_snapshot, unregister_reader_for_snapshot, share_answer};

@@ -11,21 +11,21 @@ use wal_types::{
 };
 
 // The floor: the least mark above 0 that is still held, or none.
-#[derive(Drop)]
+#[derive(Clone, Copy)]
 pub enum Floor {
     Mark(u64),
     NoMark,
 }
 
 // What the marks of live slots come to: the least one above 0, and whether one of them is 0.
-#[derive(Drop)]
+#[derive(Clone, Copy)]
 pub struct LiveMarks {
     pub floor: Floor,
     pub db_file_reader: bool,
 }
 
 // A live slot's mark, or none.
-#[derive(Drop)]
+#[derive(Clone, Copy)]
 pub enum LiveFrame {
     Frame(u64),
     NotLive,

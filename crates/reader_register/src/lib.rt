@@ -1,3 +1,5 @@
 // A reader that takes a slot.
+#![tactic(auto)]
+
 pub mod register;
 pub mod stale;

@@ -15,7 +15,7 @@ use reader_slots::{available, slots};
 use wal_types::{SharedOwnerRecord, SharedWalOwnershipMode, refusal};
 
 // Taken is the reader's slot. Refused changes nothing, and neither does NoSlot.
-#[derive(Drop)]
+#[derive(Clone, Copy)]
 pub enum Register {
     Taken(usize),
     NoSlot,

@@ -1,4 +1,6 @@
 // The registry of shared marks, a lent slice of records: what a call looks for in it, and the changes of one record.
+#![tactic(auto)]
+
 ghost use Rattle.std.specs.Prelude.{◌≡◌, min, length};
 ghost use Rattle.reader_slots.specs.Slots.{is_in_registry};
 ghost use Rattle.reader_marks.specs.InnerChange.{retained, published, released};

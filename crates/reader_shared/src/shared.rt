@@ -11,7 +11,7 @@ use wal_types::{SharedOwnerRecord, SharedReadMark, SharedWalOwnershipMode, UNOWN
 
 // Taken is the reader's slot with its owner, who is the first holder, and its mark. Refused changes nothing, and neither
 // does NoSlot.
-#[derive(Drop)]
+#[derive(Clone, Copy)]
 pub enum Share {
     Taken(u32, SharedOwnerRecord, u64),
     NoSlot,
@@ -20,7 +20,7 @@ pub enum Share {
 
 // What a shared registration does to the registry: the place of the record that it retains, and of the one that it
 // publishes for the slot, each past the end if there is none. And its answer.
-#[derive(Drop)]
+#[derive(Clone, Copy)]
 pub struct SharePlan {
     pub retained: usize,
     pub published: usize,
@@ -132,7 +132,7 @@ pub fn share_refusal(
 
 // What a shared release does to the registry: the place of the record that it releases, past the end if there is none. And
 // its answer.
-#[derive(Drop)]
+#[derive(Clone, Copy)]
 pub struct UnsharePlan {
     pub released: usize,
     pub answer: Release,

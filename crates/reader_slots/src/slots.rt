@@ -12,7 +12,7 @@ use wal_types::{
 };
 
 // A slot found, or none.
-#[derive(Drop)]
+#[derive(Clone, Copy)]
 pub enum Slot {
     At(usize),
     Nothing,

@@ -1,5 +1,7 @@
 // The words of the shared coordination memory: owners, the header's cells, the registry's records and the lock mode.
 // The definitions that all calls share (settings, memory, stores, answers, refusals, fresh memory) are in specs/.
+#![tactic(auto)]
+
 pub mod refusal;
 
 ghost use Rattle.std.specs.Prelude.{◌≡◌, ◌+◌, ◌*◌, ◌/◌, ◌%◌, ◌^◌};
@@ -21,7 +23,7 @@ pub const FRAME_INDEX_BLOCK_HASH_SLOTS: u32 = 8192;
 // A connection, as it stands in owner cells: its process id in the high 32 bits, its instance id in the low 32.
 // It is a type of its own so that an owner is never passed as a mark.
 #[repr(C)]
-#[derive(Drop)]
+#[derive(Clone, Copy)]
 pub struct SharedOwnerRecord(pub u64);
 
 impl SharedOwnerRecord {
@@ -51,7 +53,7 @@ impl SharedOwnerRecord {
 }
 
 // The locking primitive behind the slots and the two locks.
-#[derive(Drop)]
+#[derive(Clone, Copy)]
 pub enum SharedWalOwnershipMode {
     LinuxOfd,
     ProcessScopedFcntl,
@@ -60,7 +62,7 @@ pub enum SharedWalOwnershipMode {
 // The header's cells, in the source's order. The source's further cells (magic, layout numbers, the snapshot
 // sequence, page size, salts and the backfill proof) belong to what is left out.
 #[repr(C)]
-#[derive(Drop)]
+#[derive(Clone, Copy)]
 pub struct Header {
     pub frame_index_blocks: u32,
     pub frame_index_len: u32,
@@ -79,7 +81,7 @@ pub struct Header {
 
 // One record of a process's registry of shared marks. With 0 holders it is empty.
 #[repr(C)]
-#[derive(Drop)]
+#[derive(Clone, Copy)]
 pub struct SharedReadMark {
     pub mark: u64,
     pub slot: u32,

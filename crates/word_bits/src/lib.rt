@@ -1,4 +1,6 @@
 // One bit of a word: tested, set and cleared by a mask; and the lowest bit that is set.
+#![tactic(auto)]
+
 ghost use Rattle.std.specs.Prelude.{◌≡◌, ◌<◌};
 ghost use Rattle.wal_types.specs.Memory.{bit_at};
 ghost use Rattle.word_bits.specs.Bit.{set_bit, clear_bit, Lowest};
