@@ -1,0 +1,31 @@
+use Rattle.index_search.proofs.Passed.{next_turn, probe_start, probe_here, named_used, looked_start, count_empty, count_hidden, count_live}
+use Rattle.index_hash.proofs.Turns.{probe_at_empty, probe_at_hidden, probe_at_other, probe_at_page}
+use mathlib.Core.Logic.{⊎_elim}
+use Prim.Native.Nat.{◌+◌, ◌-◌}
+use native.Mathlib.Omega.{arith}
+use Rattle.index_search.proofs.probe.probe_near.Goals as goal
+
+pub loop-turn-init : goal.loop-turn-init
+loop-turn-init c = (omega arith, (probe_start _ _ _ _ _ (omega arith) c.requires.1.0, looked_start _ _ _ _ (omega arith) c.requires.1.0))
+
+pub overflow_cast-local_plus_one : goal.overflow_cast-local_plus_one
+overflow_cast-local_plus_one c = omega (arith, c.shared_slice_known-in-loop-turn-1.given (c.args.from + c.loop-turn.turn))
+
+pub returns-then-local_plus_one-eq0 : goal.returns-then-local_plus_one-eq0
+returns-then-local_plus_one-eq0 c =
+    let i = c.loop-turn.invariant in
+    rw c.ended.ensures (
+      probe_at_empty _ _ _ _ _ _ _ _ (probe_here _ _ _ _ _ _ _ _ (omega arith) i.1.0) (omega arith) c.if-local_plus_one-eq0.true,
+      count_empty _ _ _ _ _ _ (omega arith) (omega arith) i.1.1 c.if-local_plus_one-eq0.true,
+    )
+
+pub returns-then-visible_entries-local_plus_one : goal.returns-then-visible_entries-local_plus_one
+returns-then-visible_entries-local_plus_one c =
+    let i = c.loop-turn.invariant in
+    rw c.ended-then-visible_entries-local_plus_one.ensures (
+      probe_at_hidden _ _ _ _ _ _ _ _ (probe_here _ _ _ _ _ _ _ _ (omega arith) i.1.0) c.if-local_plus_one-eq0.false (omega arith) (omega arith),
+      count_hidden _ _ _ _ _ _ (omega arith) (omega arith) i.1.1 c.if-local_plus_one-eq0.false (omega arith),
+    )
+
+pub returns : goal.returns
+returns c = tt
