@@ -1,15 +1,12 @@
 use Rattle.index_search.proofs.Passed.{next_turn, probe_start, probe_here, named_used, looked_start, count_empty, count_hidden, count_live}
 use Rattle.index_hash.proofs.Turns.{probe_at_empty, probe_at_hidden, probe_at_other, probe_at_page}
-use mathlib.Core.Logic.{⊎_elim}
 use Prim.Native.Nat.{◌+◌, ◌-◌}
 use native.Mathlib.Omega.{arith}
 use Rattle.index_search.proofs.probe.probe_near.Goals as goal
+use Rattle.index_search.proofs.probe.probe_near.Goals.{then-pages-local_plus_one, else-pages-local_plus_one}
 
 pub loop-turn-init : goal.loop-turn-init
 loop-turn-init c = (omega arith, (probe_start _ _ _ _ _ (omega arith) c.requires.1.0, looked_start _ _ _ _ (omega arith) c.requires.1.0))
-
-pub overflow_cast-local_plus_one : goal.overflow_cast-local_plus_one
-overflow_cast-local_plus_one c = omega (arith, c.shared_slice_known-in-loop-turn-1.given (c.args.from + c.loop-turn.turn))
 
 pub returns-then-local_plus_one-eq0 : goal.returns-then-local_plus_one-eq0
 returns-then-local_plus_one-eq0 c =
@@ -29,3 +26,17 @@ returns-then-visible_entries-local_plus_one c =
 
 pub returns : goal.returns
 returns c = tt
+
+pub loop-turn-preserved : goal.loop-turn-preserved
+loop-turn-preserved c =
+    let i = c.loop-turn.invariant in
+    let used = c.if-local_plus_one-eq0.false in (
+      omega arith,
+      rw (← next_turn _ _) (
+        elim c.if-pages-local_plus_one.branch [
+          then-pages-local_plus_one w ↦ rw (w.latest-is, named_used _ used) (probe_at_page _ _ _ _ _ _ _ _ (probe_here _ _ _ _ _ _ _ _ (omega arith) i.1.0) used _ (omega arith) (omega arith) w.if-pages-local_plus_one.true)
+        | else-pages-local_plus_one w ↦ rw w.latest-is (probe_at_other _ _ _ _ _ _ _ _ (probe_here _ _ _ _ _ _ _ _ (omega arith) i.1.0) used _ (omega arith) (omega arith) w.if-pages-local_plus_one.false)
+        ],
+        count_live _ _ _ _ _ _ (omega arith) (omega arith) i.1.1 used (omega arith) _ (omega arith),
+      ),
+    )
