@@ -1,0 +1,5 @@
+use Rattle.index_find.proofs.Blocks.{put_block}
+use Rattle.index_find.proofs.index.clear_block.Goals as goal
+
+pub returns : goal.returns
+returns c = rw c.clear_frame_index_block_hash.ensures (put_block _ _ _)
