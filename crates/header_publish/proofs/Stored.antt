@@ -1,7 +1,7 @@
 -- What the publishes and the bumps store to: their cells of the header. Said of their lists of stores, for whatever holds of a store to one of these. Assumes nothing.
 use Rattle.std.proofs.Common.{ℕ, max, leb}
-use Rattle.wal_types.specs.Memory.{Memory, HeaderCell, max_frame_cell, nbackfills_cell, transaction_count_cell, visibility_generation_cell, checkpoint_seq_cell, checkpoint_epoch_cell, checksum_1_cell, checksum_2_cell, Store, to_header}
-use Rattle.wal_types.specs.Store.{Piece, one, when, ◌then◌}
+use Rattle.wal_types.specs.Memory.{max_frame_cell, nbackfills_cell, transaction_count_cell, visibility_generation_cell, checkpoint_seq_cell, checkpoint_epoch_cell, checksum_1_cell, checksum_2_cell, Store, to_header}
+use Rattle.wal_types.specs.Store.{one, when, ◌then◌}
 use Rattle.wal_types.proofs.Every.{EveryOf, EveryOfCall, every_then, every_when}
 use Rattle.header_publish.specs.Publish.{next, commit_stores, publish_commit, publish_backfill, bump_checkpoint_seq, bump_checkpoint_epoch}
 

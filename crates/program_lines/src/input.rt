@@ -2,9 +2,10 @@
 // its newline: a last line that has none is a line as others are, and nothing behind the last newline is no line.
 // A line that is longer than its buffer fills it, and what does not fit is left out.
 use crate::line::byte_at;
-use libc::STDIN_FILENO;
+use std::io;
+use std::io::Read;
 
-#[derive(Drop)]
+#[derive(Clone, Copy)]
 pub struct Input {
     // The bytes that were read and not yet taken, from and to before.
     pub at: usize,
@@ -75,15 +76,15 @@ fn at_end(input: Input) -> Input {
 }
 
 // Reads once, after all that was read is taken.
-pub fn refill(input: Input, bytes: &mut [u8]) -> Input {
-    let got = libc::read(STDIN_FILENO, bytes);
-    if got <= 0 {
-        return at_end(input);
+pub fn refill<R: Read>(source: &mut R, input: Input, bytes: &mut [u8]) -> io::Result<Input> {
+    let got = source.read(bytes)?;
+    if got == 0 {
+        return Ok(at_end(input));
     }
     let mut next = input;
     next.at = 0;
-    next.len = io::count(got, bytes);
-    next
+    next.len = got;
+    Ok(next)
 }
 
 // The line was taken.

@@ -5,8 +5,26 @@
 
 mod block;
 
-use libc::{STDIN_FILENO, STDOUT_FILENO};
+ghost use Rattle.std.specs.Prelude.{◌≤◌, length, IfOk};
+
 use program_lines::line::line_end;
+use std::io;
+use std::io::Read;
+
+// Reads until the text is full or the input ends, and answers how many bytes it has.
+fn read_text<R: Read>(source: &mut R, text: &mut [u8]) -> io::Result<usize>
+    ensures { IfOk result (λ len. len ≤ length text.new) }
+{
+    let mut len = 0;
+    while len < text.len() {
+        let got = source.read(&mut text[len..])?;
+        if got == 0 {
+            return Ok(len);
+        }
+        len += got;
+    }
+    Ok(len)
+}
 
 // Takes in the lines of the text, and answers how many pages there are.
 fn read_block(text: &[u8], len: usize, pages: &mut [u64], cells: &mut [u16]) -> usize {
@@ -26,20 +44,17 @@ fn read_block(text: &[u8], len: usize, pages: &mut [u64], cells: &mut [u16]) -> 
     entries
 }
 
-fn write_counts(entries: usize, differences: usize) {
-    io::print_decimal(STDOUT_FILENO, entries as u64);
-    io::write_all(STDOUT_FILENO, b" entries, ");
-    io::print_decimal(STDOUT_FILENO, differences as u64);
-    io::write_all(STDOUT_FILENO, b" differences\n");
+fn write_counts(rt: &impl Print, entries: usize, differences: usize) -> io::Result<()> {
+    println!(rt; "{entries} entries, {differences} differences")
 }
 
-fn main() {
+fn main(rt: HostRuntime) -> io::Result<()> {
     let mut text = [0u8; 65536];
     let mut pages = [0u64; 4096];
     let mut cells = [0u16; 8192];
     let mut hash = [0u16; 8192];
-    let len = io::read_full(STDIN_FILENO, &mut text);
+    let len = read_text(&mut rt.stdin(), &mut text)?;
     let entries = read_block(&text, len, &mut pages, &mut cells);
     let differences = block::differences(&pages, entries, &cells, &mut hash);
-    write_counts(entries, differences);
+    write_counts(&rt, entries, differences)
 }

@@ -1,0 +1,15 @@
+-- `program_columns::request::find_request` takes its fields apart as the definition does. Assumes nothing.
+use mathlib.Core.Path.{sym, ◌∙◌}
+use Rattle.program_columns.proofs.request.find_request.Goals as goal
+
+pub returns-in_default : goal.returns-in_default
+returns-in_default c = rw (sym c.field_at.ensures ∙ c.in_default.is)
+
+pub returns-in_default-field_at : goal.returns-in_default-field_at
+returns-in_default-field_at c = rw (sym c.field_at.ensures ∙ c.in-Number.is, sym c.field_at-2.ensures ∙ c.in_default-field_at.is)
+
+pub returns-in_default-field_at-2 : goal.returns-in_default-field_at-2
+returns-in_default-field_at-2 c = rw (sym c.field_at.ensures ∙ c.in-Number.is, sym c.field_at-2.ensures ∙ c.in-Number-field_at.is, sym c.field_at-3.ensures ∙ c.in_default-field_at-2.is)
+
+pub returns : goal.returns
+returns c = rw (sym c.field_at.ensures ∙ c.in-Number.is, sym c.field_at-2.ensures ∙ c.in-Number-field_at.is, sym c.field_at-3.ensures ∙ c.in-Number-field_at-2.is)
