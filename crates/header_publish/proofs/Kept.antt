@@ -1,6 +1,5 @@
 -- Publishing the copied count that is there already leaves the header as it is. Assumes nothing.
-use Rattle.std.proofs.Common.{◌≡◌, ℕ, Bool, not, T, eqb, sym, refl, ◌∙◌, eqb-true}
-use lib.Ieee.Bits.{is_false}
+use Rattle.std.proofs.Common.{◌≡◌, ℕ, Bool, false, not, eqb, sym, refl, ◌∙◌, eqb-true}
 use borrow.Author.Tests.{not-false}
 use Rattle.wal_types.specs.declared.Header.{Header}
 use Rattle.wal_types.specs.Call.{ok}
@@ -10,5 +9,5 @@ there : (n : ℕ) (h : Header) → n ≡ h.nbackfills → HeaderCall (publish_ba
 unfolding publish_backfill
 there n h e z p = rw e refl
 
-pub backfill_kept : (n : ℕ) (h : Header) (changes : Bool) → changes ≡ not (eqb n h.nbackfills) → T (not changes) → HeaderCall (publish_backfill n) h ok h
-backfill_kept n h changes e t = there n h (eqb-true n h.nbackfills (not-false (eqb n h.nbackfills) (sym e ∙ is_false changes t)))
+pub backfill_kept : (n : ℕ) (h : Header) (changes : Bool) → changes ≡ not (eqb n h.nbackfills) → changes ≡ false → HeaderCall (publish_backfill n) h ok h
+backfill_kept n h changes e f = there n h (eqb-true n h.nbackfills (not-false (eqb n h.nbackfills) (sym e ∙ f)))

@@ -29,22 +29,22 @@ module _ (entries spare : List ℕ) (count : ℕ) (fits : count ≤ length spare
   count_entries = sym (length-take-le count spare fits) ∙ ap length chosen
 
   module _ (old_pages old_frames : List ℕ) where
-    pub short-pages : length old_pages < count → TooMany entries 5 old_pages old_frames old_pages old_frames
-    short-pages b =
+    pub short_pages : length old_pages < count → TooMany entries 5 old_pages old_frames old_pages old_frames
+    short_pages b =
         let e = count_entries in
         record { number_5 = refl; short = rw (lt-ltb (length old_pages) (length entries) (omega arith)); pages_kept = refl; frames_kept = refl }
 
-    pub short-frames : count ≤ length old_pages → length old_frames < count → TooMany entries 5 old_pages old_frames old_pages old_frames
-    short-frames a b =
+    pub short_frames : count ≤ length old_pages → length old_frames < count → TooMany entries 5 old_pages old_frames old_pages old_frames
+    short_frames a b =
         let e = count_entries in
         record { number_5 = refl; short = rw (le-ltb (length old_pages) (length entries) (omega arith), lt-ltb (length old_frames) (length entries) (omega arith)); pages_kept = refl; frames_kept = refl }
 
-    pub all-written :
+    pub all_written :
         (pages frames new_pages new_frames : List ℕ) → count ≤ length old_pages → count ≤ length old_frames
         → new_pages ≡ map (λ e. get_or pages e 0) (take count spare) ++ drop (length (take count spare)) old_pages
         → new_frames ≡ map (λ e. get_or frames e 0) (take count spare) ++ drop (length (take count spare)) old_frames
         → Written pages frames entries count old_pages old_frames new_pages new_frames
-    all-written pages frames new_pages new_frames a b p q =
+    all_written pages frames new_pages new_frames a b p q =
         record {
           count = count_entries;
           pages_room = a;
@@ -82,15 +82,15 @@ turned_away (suc n) o m p e = refl
 
 -- with neither refusal 1 nor 2, the entries and their blocks are there
 module _ (capacity b : ℕ) (h : Header) (pages frames hash : ℕ) (ok : 0 ≡ index_refusal capacity b h pages frames hash) where
-  pub frames-there : h.frame_index_len ≤ frames
-  frames-there =
+  pub frames_there : h.frame_index_len ≤ frames
+  frames_there =
       let n = none_applies (bad_settings capacity b h) (short_index b pages frames hash) ok in
       let g = good_settings capacity b h n.0 in
       let m = long_enough b pages frames hash n.1 in
       omega arith
 
-  pub blocks-there : (v : ℕ) → v ≤ h.frame_index_len → (v ≤ 65536) × (8192 * ((v + 4095) / 4096) ≤ hash)
-  blocks-there v l =
+  pub blocks_there : (v : ℕ) → v ≤ h.frame_index_len → (v ≤ 65536) × (8192 * ((v + 4095) / 4096) ≤ hash)
+  blocks_there v l =
       let n = none_applies (bad_settings capacity b h) (short_index b pages frames hash) ok in
       let g = good_settings capacity b h n.0 in
       let m = long_enough b pages frames hash n.1 in
@@ -125,11 +125,11 @@ module _ (capacity b : ℕ) (h : Header) (pages frames hash : List ℕ) (low hig
   by_tests z p = refl
 
   -- refusals 1 and 2
-  pub refused-first :
+  pub refused_first :
       (n : ℕ) → n ≡ index_refusal capacity b h (length pages) (length frames) (length hash) → (n ≡ 0 → ⊥)
       → new_pages ≡ old_pages → new_frames ≡ old_frames
       → (z : Memory) (p : Process) → IsRefused (iter_latest_frames capacity b low high (length old_pages) (length old_frames)) (index_in z h pages frames hash) p n old_pages old_frames new_pages new_frames
-  refused-first n e s kp kf z p =
+  refused_first n e s kp kf z p =
       record {
         answered =
             by_tests z p
@@ -141,8 +141,8 @@ module _ (capacity b : ℕ) (h : Header) (pages frames hash : List ℕ) (low hig
 
   module _ (ok : 0 ≡ index_refusal capacity b h (length pages) (length frames) (length hash)) where
     -- refusal 5, or none
-    by-room : (t : Bool) → many ≡ t → (z : Memory) (p : Process) → after call (index_in z h pages frames hash) p ≡ by_number (cond t 5 0) (listing p) (index_in z h pages frames hash) p
-    by-room t e z p =
+    by_room : (t : Bool) → many ≡ t → (z : Memory) (p : Process) → after call (index_in z h pages frames hash) p ≡ by_number (cond t 5 0) (listing p) (index_in z h pages frames hash) p
+    by_room t e z p =
         by_tests z p
         ∙ ap (λ (k : ℕ). by_number k (listing p) (index_in z h pages frames hash) p) (third bad short many ok ∙ ap (λ (s : Bool). cond {A = ℕ} s 5 0) e)
 
@@ -151,7 +151,7 @@ module _ (capacity b : ℕ) (h : Header) (pages frames hash : List ℕ) (low hig
         let c : n ≡ length pairs = w.count ∙ sym (length-map entries (λ e. pair (get_or pages e 0) (get_or frames e 0))) in
         record {
           pairs = pairs;
-          answered = by-room false enough z p;
+          answered = by_room false enough z p;
           count = c;
           pages_written = w.pages_written ∙ ap₂ (λ (l : List ℕ) (k : ℕ). l ++ drop k old_pages) (sym (map-map (λ q. q.page) (λ e. pair (get_or pages e 0) (get_or frames e 0)) entries)) c;
           frames_written = w.frames_written ∙ ap₂ (λ (l : List ℕ) (k : ℕ). l ++ drop k old_frames) (sym (map-map (λ q. q.frame) (λ e. pair (get_or pages e 0) (get_or frames e 0)) entries)) c;
@@ -167,19 +167,19 @@ module _ (capacity b : ℕ) (h : Header) (pages frames hash : List ℕ) (low hig
     too_many : (n : ℕ) → TooMany entries n old_pages old_frames new_pages new_frames → (z : Memory) (p : Process) → IsRefused call (index_in z h pages frames hash) p n old_pages old_frames new_pages new_frames
     too_many n w z p =
         record {
-          answered = by-room true w.short z p ∙ ap (λ (k : ℕ). done (refused k) (index_in z h pages frames hash) p) (sym w.number_5);
+          answered = by_room true w.short z p ∙ ap (λ (k : ℕ). done (refused k) (index_in z h pages frames hash) p) (sym w.number_5);
           pages_kept = w.pages_kept;
           frames_kept = w.frames_kept;
         }
 
-    listed-visible : (r : ListAnswer) → Writes pages frames entries r old_pages old_frames new_pages new_frames → (z : Memory) (p : Process) → Lists call (index_in z h pages frames hash) p r old_pages old_frames new_pages new_frames
-    listed-visible (Pairs n) w = all_listed n w
-    listed-visible (Refused n) w = too_many n w
+    listed_visible : (r : ListAnswer) → Writes pages frames entries r old_pages old_frames new_pages new_frames → (z : Memory) (p : Process) → Lists call (index_in z h pages frames hash) p r old_pages old_frames new_pages new_frames
+    listed_visible (Pairs n) w = all_listed n w
+    listed_visible (Refused n) w = too_many n w
 
     -- what was written is what the call lists
-    pub listed-or-short :
+    pub listed_or_short :
         (v : ℕ) → v ≡ visible frames h.frame_index_len high → (r : ListAnswer)
         → Writes pages frames (in_bounds frames low high (latest pages hash v)) r old_pages old_frames new_pages new_frames
         → (z : Memory) (p : Process) → Lists (iter_latest_frames capacity b low high (length old_pages) (length old_frames)) (index_in z h pages frames hash) p r old_pages old_frames new_pages new_frames
-    listed-or-short v e r w =
-        listed-visible r (subst (λ (x : ℕ). Writes pages frames (in_bounds frames low high (latest pages hash x)) r old_pages old_frames new_pages new_frames) e w)
+    listed_or_short v e r w =
+        listed_visible r (subst (λ (x : ℕ). Writes pages frames (in_bounds frames low high (latest pages hash x)) r old_pages old_frames new_pages new_frames) e w)

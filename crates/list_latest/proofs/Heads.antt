@@ -46,11 +46,11 @@ module _ (pages : List ℕ) where
       rw (heads_next n (e ∷ l), heads_next n l)
       (ap₂ (λ (x y : List ℕ). x ++ y) (heads_beyond n e l (omega arith)) (head_other pages n e l (λ p. absurd (omega arith))))
 
-  below_weaken : {l : List ℕ} (n m : ℕ) → n ≤ m → Below pages n l → Below pages m l
+  below_weaken : (n m : ℕ) {l : List ℕ} → n ≤ m → Below pages n l → Below pages m l
   below_weaken n m b none_below = none_below
   below_weaken n m b (more_below e l p r) = more_below e l (omega arith) (below_weaken n m b r)
 
-  below_append : {a b : List ℕ} (n : ℕ) → Below pages n a → Below pages n b → Below pages n (a ++ b)
+  below_append : (n : ℕ) {a b : List ℕ} → Below pages n a → Below pages n b → Below pages n (a ++ b)
   below_append n none_below s = s
   below_append n (more_below e l p r) s = more_below e _ p (below_append n r s)
 
@@ -93,18 +93,18 @@ module _ (pages : List ℕ) where
       (ap (λ (x : List ℕ). e ∷ x) (ap (λ (w : ℕ). firsts_after pages w (having (page_of pages) v l)) p ∙ firsts_one v l)))
       (λ p. rw (having_other (page_of pages) v e l p, head_other pages v e l p) (firsts_having q v n l))
 
-  firsts_append : {a : List ℕ} (q v : ℕ) (l : List ℕ) → Below pages v a → (q ≡ v → ⊥) → firsts_after pages q (a ++ having (page_of pages) v l) ≡ firsts_after pages q a ++ head_of pages v l
-  firsts_append q v l none_below n = firsts_having q v n l ∙ rw (firsts_nil pages q)
-  firsts_append q v l (more_below e r b s) n =
+  firsts_append : (v : ℕ) (l : List ℕ) (q : ℕ) {a : List ℕ} → Below pages v a → (q ≡ v → ⊥) → firsts_after pages q (a ++ having (page_of pages) v l) ≡ firsts_after pages q a ++ head_of pages v l
+  firsts_append v l q none_below n = firsts_having q v n l ∙ rw (firsts_nil pages q)
+  firsts_append v l q (more_below e r b s) n =
       by_eqb _ (get_or pages e 0) q
-      (λ p. rw (firsts_skip pages q e (r ++ having (page_of pages) v l) p, firsts_skip pages q e r p) (firsts_append q v l s n))
-      (λ p. rw (firsts_take pages q e (r ++ having (page_of pages) v l) p, firsts_take pages q e r p) (ap (λ (x : List ℕ). e ∷ x) (firsts_append (get_or pages e 0) v l s (λ t. absurd (omega arith)))))
+      (λ p. rw (firsts_skip pages q e (r ++ having (page_of pages) v l) p, firsts_skip pages q e r p) (firsts_append v l q s n))
+      (λ p. rw (firsts_take pages q e (r ++ having (page_of pages) v l) p, firsts_take pages q e r p) (ap (λ (x : List ℕ). e ∷ x) (firsts_append v l (get_or pages e 0) s (λ t. absurd (omega arith)))))
 
   firsts_by_key : (q n : ℕ) (l : List ℕ) → n ≤ q → firsts_after pages q (by_key (page_of pages) n l) ≡ heads pages n l
   firsts_by_key q zero l b = rw (by_key_none (page_of pages) l, heads_none l) (firsts_nil pages q)
   firsts_by_key q (suc n) l b =
       rw (by_key_next (page_of pages) n l, heads_next n l)
-      (firsts_append q n l (below_by_key n l) (λ e. absurd (omega arith)) ∙ ap (λ (x : List ℕ). x ++ head_of pages n l) (firsts_by_key q n l (omega arith)))
+      (firsts_append n l q (below_by_key n l) (λ e. absurd (omega arith)) ∙ ap (λ (x : List ℕ). x ++ head_of pages n l) (firsts_by_key q n l (omega arith)))
 
   firsts_any : (q : ℕ) → ((e : ℕ) → get_or pages e 0 < q) → (l : List ℕ) → firsts pages l ≡ firsts_after pages q l
   unfolding firsts

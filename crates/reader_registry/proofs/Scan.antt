@@ -1,12 +1,12 @@
 -- Scans of the registry, one record or eight at a time. Assumes nothing.
 use mathlib.Core.Path.{◌≡◌, refl, sym, ap, ◌∙◌}
-use mathlib.Core.Bool.{Bool, true, false, not, ◌&&◌, ◌||◌, cond}
+use mathlib.Core.Bool.{Bool, true, false, ◌&&◌, ◌||◌, cond}
 use mathlib.Core.List.{List, [], ◌∷◌}
 use Prim.Native.Nat.{ℕ, zero, suc, ◌+◌, ◌-◌, ◌≤◌, ◌<◌, min}
 use native.Mathlib.Decide.{dec_le}
 use native.Mathlib.Numerals.{add-one}
 use native.Mathlib.Omega.{arith}
-use lib.Dec.{T, ltb, ltb→lt, nltb→le}
+use lib.Dec.{ltb}
 use borrow.Author.Tests.{lt-ltb, le-ltb}
 use lib.ListN.{length, get_or}
 use Rattle.wal_types.specs.declared.SharedReadMark.{SharedReadMark}
@@ -212,20 +212,20 @@ module _ (registry : List SharedReadMark) (n mark : ℕ) (wanted : Wanted) (plac
   unfolding picks
   its_place = rw w at f
 
-  pub alone_told : T (ltb place (length registry)) → seen ≡ seen_alone place (get_or registry place no_mark) → seen ≡ seen_of end registry mark
+  pub alone_told : place < length registry → seen ≡ seen_alone place (get_or registry place no_mark) → seen ≡ seen_of end registry mark
   unfolding seen_of
   alone_told y e = e ∙ go (record_of end registry mark) refl its_place y
     where
-      go : (r : Record) → record_of end registry mark ≡ r → place ≡ place_in (length registry) r → T (ltb place (length registry)) → ◌≡◌ {A = Seen} (seen_alone place (get_or registry place no_mark)) (record { place = r; item = item_at registry r; empty = empty_unless r end registry })
+      go : (r : Record) → record_of end registry mark ≡ r → place ≡ place_in (length registry) r → place < length registry → ◌≡◌ {A = Seen} (seen_alone place (get_or registry place no_mark)) (record { place = r; item = item_at registry r; empty = empty_unless r end registry })
       go (At k) x p h = rw p
-      go Nothing x p h = let z = ltb→lt place (length registry) h in absurd (omega (arith, z, p))
+      go Nothing x p h = absurd (omega (arith, h, p))
 
-  pub both_told : T (not (ltb place (length registry))) → (next : Wanted) (free : ℕ) → next ≡ Empty → free ≡ place_in (length registry) (first_record (picks next) registry end 0) → seen ≡ seen_with free (length registry) → seen ≡ seen_of end registry mark
+  pub both_told : length registry ≤ place → (next : Wanted) (free : ℕ) → next ≡ Empty → free ≡ place_in (length registry) (first_record (picks next) registry end 0) → seen ≡ seen_with free (length registry) → seen ≡ seen_of end registry mark
   unfolding seen_of picks
   both_told y next free v g e = e ∙ rw (rw v at g, told_record is_empty registry end (length registry) (omega arith) (empty_record end registry) refl) (go (record_of end registry mark) refl its_place y)
     where
-      go : (r : Record) → record_of end registry mark ≡ r → place ≡ place_in (length registry) r → T (not (ltb place (length registry))) → ◌≡◌ {A = Seen} (record { place = Nothing; item = no_mark; empty = empty_record end registry }) (record { place = r; item = item_at registry r; empty = empty_unless r end registry })
-      go (At k) x p h = let z = below (fits mark) registry end 0 k x in let q = nltb→le place (length registry) h in absurd (omega (arith, z, p, q))
+      go : (r : Record) → record_of end registry mark ≡ r → place ≡ place_in (length registry) r → length registry ≤ place → ◌≡◌ {A = Seen} (record { place = Nothing; item = no_mark; empty = empty_record end registry }) (record { place = r; item = item_at registry r; empty = empty_unless r end registry })
+      go (At k) x p h = let z = below (fits mark) registry end 0 k x in absurd (omega (arith, z, p, h))
       go Nothing x p h = refl
 
 -- a scan for a slot tells whether one of the first n records is in use for it

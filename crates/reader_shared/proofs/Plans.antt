@@ -1,19 +1,13 @@
 -- The plans of a mark that is joined and of a new one. Assumes nothing.
 use mathlib.Core.Path.{◌≡◌, refl, ◌∙◌}
 use mathlib.Core.Bool.{Bool, true, false}
-use mathlib.Core.List.{[], ◌∷◌}
-use mathlib.Core.Logic.{inl, inr}
 use Prim.Native.Nat.{ℕ, ◌<◌, ◌≤◌}
-use native.Mathlib.Omega.{arith}
 use borrow.Author.Tests.{le-leb, lt-leb}
-use types.Run.{OneOf}
-use denote.Enum.Declared.{tag_of}
 use Rattle.wal_types.specs.declared.SharedOwnerRecord.{SharedOwnerRecord}
 use Rattle.wal_types.specs.declared.SharedReadMark.{SharedReadMark}
 use Rattle.wal_types.specs.Settings.{most_holders}
 use Rattle.reader_register.specs.declared.register.Register.{Register}
 use Rattle.reader_register.specs.declared.register.Register.TheVariants.{Taken as RegisterTaken, NoSlot as RegisterNone, Refused as RegisterRefused}
-use Rattle.reader_register.specs.contracts.register.Register as RegisterType
 use Rattle.reader_shared.specs.declared.shared.Share.TheVariants.{Taken, NoSlot as NotTaken, Refused as NotShared}
 use Rattle.reader_shared.specs.declared.shared.SharePlan.{SharePlan}
 use Rattle.reader_shared.specs.Inner.{shares_nothing, shares_joined, shares_published}
@@ -33,12 +27,12 @@ module _ (records found : ℕ) (item : SharedReadMark) (mark : ℕ) (bad : Bool)
     joined_kept x = rw (lt-leb most_holders item.holders room, x)
 
 module _ (records free : ℕ) (registered : Register) (owner : SharedOwnerRecord) (mark : ℕ) where
-  pub published_none : OneOf (1 ∷ 2 ∷ []) (tag_of RegisterType.the_type registered) → (plan : SharePlan) → plan ≡ shares_nothing records NotTaken → plan ≡ shares_published records free registered owner mark
+  pub published_none : ((slot : ℕ) → registered ≡ RegisterTaken slot → ⊥) → (plan : SharePlan) → plan ≡ shares_nothing records NotTaken → plan ≡ shares_published records free registered owner mark
   unfolding shares_published
   published_none w plan made = made ∙ go registered w
     where
-      go : (r : Register) → OneOf (1 ∷ 2 ∷ []) (tag_of RegisterType.the_type r) → shares_nothing records NotTaken ≡ shares_published records free r owner mark
-      go (RegisterTaken i) w = absurd (elim w [ inl q ↦ (let z : ◌≡◌ {A = ℕ} 0 1 = q in omega arith) | inr q ↦ (let z : ◌≡◌ {A = ℕ} 0 2 = q in omega arith) ])
+      go : (r : Register) → ((slot : ℕ) → r ≡ RegisterTaken slot → ⊥) → shares_nothing records NotTaken ≡ shares_published records free r owner mark
+      go (RegisterTaken i) w = absurd (w i refl)
       go RegisterNone w = refl
       go (RegisterRefused k) w = refl
 
