@@ -1,6 +1,6 @@
 use Rattle.list_gather.proofs.SeenValues.{length_part, named_if_seen}
 use Rattle.list_gather.proofs.Gathered.{gathers_all, gathers_unnamed, gathers_skip, gathers_append, gathers_end}
-use borrow.Author.Tests.{eq-eqb, ne_eqb, not-false}
+use borrow.Author.Tests.{eq-eqb, ne_eqb}
 use lib.ListN.{get_or-replicate}
 use Prim.Native.Nat.{◌-◌}
 use mathlib.Core.Path.{refl, ◌∙◌}
@@ -31,4 +31,3 @@ pub loop-n-preserved : goal.loop-n-preserved
 loop-n-preserved c =
     let m = named_if_seen _ c.note_cells.new.seen c.args.k c.note_cells.ensures (c.loop-n.n - 1) (omega arith) (omega arith) ∙ ne_eqb _ _ c.if-seen-n-eq1.false in
     ((omega arith, omega arith), (omega arith, (c.loop-n.invariant.1.1.0, gathers_unnamed _ _ _ _ _ c.loop-n.invariant.1.1.1 (omega arith) m)))
-

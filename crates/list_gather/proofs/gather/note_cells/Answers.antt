@@ -1,6 +1,4 @@
 use Rattle.list_gather.proofs.SeenValues.{known_none, known_all, known_empty}
-use borrow.Author.Tests.{not-false}
-use Prim.Native.Nat.{◌-◌}
 use mathlib.Core.Path.{refl, ◌∙◌}
 use native.Mathlib.Omega.{arith}
 use Rattle.list_gather.proofs.gather.note_cells.Goals as goal
@@ -18,4 +16,3 @@ returns c = λ v a b. known_all c.args.cells.now c.loop-next.seen c.loop-next.ne
 pub loop-next-preserved : goal.loop-next-preserved
 loop-next-preserved c =
     ((omega arith, omega arith), (c.loop-next.invariant.1.0, λ v a b. known_empty c.args.cells.now c.loop-next.next 8 (omega arith) (c.empty_run.ensures c.if-not-empty_run.false) c.loop-next.seen v a ∙ c.loop-next.invariant.1.1 v a b))
-

@@ -1,7 +1,7 @@
 use native.Mathlib.Nat.{add-zero}
 use Rattle.list_gather.proofs.SeenValues.{known_other, known_noted}
 use lib.ListN.{length-set}
-use Prim.Native.Nat.{◌+◌, ◌-◌}
+use Prim.Native.Nat.{◌+◌}
 use mathlib.Core.Path.{◌≡◌, ◌∙◌}
 use native.Mathlib.Omega.{arith}
 use Rattle.list_gather.proofs.gather.note_run.Goals as goal
