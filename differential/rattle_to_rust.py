@@ -1,5 +1,5 @@
-"""Rattle to Rust, word for word: contracts go, plain data is Copy, and a slice of a C function is a pointer and a
-length. What is proved of the Rattle holds no more of the Rust: it serves to run edited sources, which nothing proves.
+"""Rattle to Rust, word for word: contracts go, and a slice of a C function is a pointer and a length. What is proved of
+the Rattle holds no more of the Rust: it serves to run edited sources, which nothing proves.
 """
 
 import re
@@ -40,9 +40,15 @@ pub fn write_all(fd: i32, bytes: &[u8]) -> bool {
 """,
 }
 
-CLAUSE = re.compile(r"\b(?:ghost|requires|ensures)\b(?:\s+[^\s{};]+)?\s*\{")
-DECLARED = re.compile(r"^([ \t]*)((?:pub(?:\([a-z]+\))? )?(?:struct|enum) )", re.M)
-EXPORTED = re.compile(r'#\[no_mangle\]\s*pub extern "C" fn (\w+)\(([^)]*)\)\s*(->\s*[^{]*)?\{')
+# What a function requires and ensures, maybe by a name; and what is ghost.
+CLAUSE = re.compile(r"\b(?:requires|ensures)\*?(?:\s+[\w'-]+)?\s*\{")
+GHOST = re.compile(r"\bghost\b[^{};]*\{")
+# What asks for tactics, and what is derived that Rust does not have.
+TACTIC = re.compile(r"^[ \t]*#!?\[tactic\(.*\)\][ \t]*\n", re.M)
+DERIVED = re.compile(r"#\[derive\(([^)]*)\)\]\s*")
+EXPORTED = re.compile(
+    r'#\[unsafe\(no_mangle\)\]\s*pub extern "C" fn (\w+)_in_rattle\(([^)]*)\)\s*(->\s*[^{]*)?\{'
+)
 SLICE = re.compile(r"&(mut )?\[([^;\]]+)\]")
 
 
@@ -57,16 +63,23 @@ def closing(text, opening):
 
 
 def without_clauses(text):
-    text = re.sub(r"^\s*ghost use [^;]*;", "", text, flags=re.M)
+    text = re.sub(r"^\s*(?:pub )?ghost use [^;]*;", "", text, flags=re.M)
     while clause := CLAUSE.search(text):
         text = text[: clause.start()] + text[closing(text, clause.end() - 1) :]
+    while ghost := GHOST.search(text):
+        text = text[: ghost.start()] + re.sub(r"^\s*[;,]", "", text[closing(text, ghost.end() - 1) :])
     return text
 
 
+def derived(match):
+    names = [name for name in map(str.strip, match[1].split(",")) if name and name != "Drop"]
+    return f"#[derive({', '.join(names)})]\n" if names else ""
+
+
 def exported(text):
-    """Each C function becomes a plain one, which crates call, with a C function before it that takes slices apart. C
-    functions, and nothing else, have names that start with wal_."""
-    text = re.sub(r"(?<!fn )\b(wal_\w+)\(", r"\1_in_rattle(", text)
+    """Each C function becomes a plain one, which crates call, with a C function before it that takes slices apart. Only C
+    functions have names that start with wal_, and a library's function that a C function of this name calls."""
+    text = re.sub(r"\b(wal_\w+)\(", r"\1_in_rattle(", text)
 
     def both(match):
         name, parameters, answer = match[1], match[2], match[3] or ""
@@ -92,9 +105,10 @@ def exported(text):
 
 def rust(text):
     text = re.sub(r"//[^\n]*", "", text)
-    text = without_clauses(text)
-    text = DECLARED.sub(r"\1#[derive(Clone, Copy)]\n\1\2", text)
-    text = re.sub(r"\bstd::", "rattle_std::", text)
+    text = without_clauses(TACTIC.sub("", text))
+    text = DERIVED.sub(derived, text)
+    text = re.sub(r"\bprove!", "debug_assert!", text)
+    text = re.sub(r"\bstd::(?=num::wrapping_)", "rattle_std::", text)
     return exported(text)
 
 
@@ -108,7 +122,7 @@ def crates_of(root, names):
     for line in (root / "crates.txt").read_text().splitlines():
         if (line := line.split("#")[0].strip()) and ":" in line:
             crate, words = line.split(":", 1)
-            needs[crate.strip()] = words.split()
+            needs[crate.split()[0]] = words.split()
     needs = {crate: [word for word in words if word in needs] for crate, words in needs.items()}
     order = []
 

@@ -14,51 +14,63 @@ mod row;
 
 use program_lines::input::Input;
 use program_lines::line::byte_at;
-use row::Row;
+use std::io;
+use std::io::Read;
 
-fn answer_line(line: &[u8]) {
+fn answer_line(rt: &impl Print, line: &[u8]) -> io::Result<()> {
     if byte_at(line, 0) == b'#' {
-        return;
+        return Ok(());
     }
-    row::write(calls::perform(row::read(line)));
+    row::write(rt, calls::perform(row::read(line)))
 }
 
 // One step towards a whole line: takes what was read, or reads more.
-fn step(input: Input, bytes: &mut [u8], line: &mut [u8]) -> Input {
+fn step<R: Read>(
+    source: &mut R,
+    input: Input,
+    bytes: &mut [u8],
+    line: &mut [u8],
+) -> io::Result<Input> {
     if program_lines::input::is_taken(input) {
-        return program_lines::input::refill(input, bytes);
+        return program_lines::input::refill(source, input, bytes);
     }
-    program_lines::input::take_part(input, bytes, line)
+    Ok(program_lines::input::take_part(input, bytes, line))
 }
 
 // Answers the line that stands in `line`, if it is whole. A row has at most 18 numbers of 20 digits: a line that was
 // cut to its buffer is none.
-fn answer_if_whole(input: Input, line: &[u8]) -> Input {
+fn answer_if_whole(rt: &impl Print, input: Input, line: &[u8]) -> io::Result<Input> {
     if !input.is_line_whole {
-        return input;
+        return Ok(input);
     }
     let first = 0;
     let len = input.line_len;
     if len <= line.len() {
-        answer_line(&line[first..len]);
+        answer_line(rt, &line[first..len])?;
     }
-    program_lines::input::without_line(input)
+    Ok(program_lines::input::without_line(input))
 }
 
 // A proved loop has to end, and nothing says that the input does: it counts its turns down, from a number that no run
 // uses up.
-fn serve(bytes: &mut [u8], line: &mut [u8]) {
+fn serve<R: Read>(
+    rt: &impl Print,
+    source: &mut R,
+    bytes: &mut [u8],
+    line: &mut [u8],
+) -> io::Result<()> {
     let mut input = program_lines::input::start();
     let mut turns = u64::MAX;
     while turns > 0 && !input.is_ended {
         turns -= 1;
-        input = step(input, bytes, line);
-        input = answer_if_whole(input, line);
+        input = step(source, input, bytes, line)?;
+        input = answer_if_whole(rt, input, line)?;
     }
+    Ok(())
 }
 
-fn main() {
+fn main(rt: HostRuntime) -> io::Result<()> {
     let mut bytes = [0u8; 65536];
     let mut line = [0u8; 1024];
-    serve(&mut bytes, &mut line);
+    serve(&rt, &mut rt.stdin(), &mut bytes, &mut line)
 }

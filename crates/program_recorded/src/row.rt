@@ -1,6 +1,6 @@
 // Rows of numbers: the row of a call, and the row of its answer.
-use libc::STDOUT_FILENO;
 use program_lines::line::{Number, field_count, number_field};
+use std::io;
 use wal_types::SharedWalOwnershipMode;
 
 // The first `count` numbers count. A row of none is of another form than all calls.
@@ -36,19 +36,17 @@ fn number_at(numbers: [u64; 18], k: usize) -> u64 {
 }
 
 // Writes a row as a line.
-pub fn write(row: Row) {
+pub fn write(rt: &impl Print, row: Row) -> io::Result<()> {
     let numbers = row.numbers;
     let count = row.count;
     if count == 0 {
-        io::write_all(STDOUT_FILENO, b"?\n");
-        return;
+        return println!(rt; "?");
     }
-    io::print_decimal(STDOUT_FILENO, numbers[0]);
+    print!(rt; "{}", numbers[0])?;
     for k in 1..count {
-        io::write_all(STDOUT_FILENO, b" ");
-        io::print_decimal(STDOUT_FILENO, number_at(numbers, k));
+        print!(rt; " {}", number_at(numbers, k))?;
     }
-    io::write_all(STDOUT_FILENO, b"\n");
+    println!(rt; "")
 }
 
 pub fn wide(number: u32) -> u64 {

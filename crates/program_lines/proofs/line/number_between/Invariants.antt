@@ -2,8 +2,5 @@
 use Prim.Native.Nat.{◌-◌}
 use Rattle.program_lines.proofs.line.number_between.Given as goal
 
-abbrev pub invariant-loop-i : goal.invariant-loop-i
-invariant-loop-i l = Unit {0}
-
 abbrev pub decreases-loop-i : goal.decreases-loop-i
 decreases-loop-i l = l.to - l.i
