@@ -80,7 +80,7 @@ def compiled(crates, texts, folder, *kind, right=None):
             file = folder / "src" / name / path
             file.parent.mkdir(parents=True, exist_ok=True)
             file.write_text(text)
-        # By its file: Rust's own libraries have a libc too.
+        # By its file, so that no other library of this name is taken.
         externs = [f"--extern={need}={folder / f'lib{need}.rlib'}" for need in ["rattle_std", *needs]]
         words = kind if name == last else ["--crate-type", "rlib"]
         root = "main.rs" if "main.rs" in texts[name] else "lib.rs"

@@ -5,40 +5,26 @@ the Rattle holds no more of the Rust: it serves to run edited sources, which not
 import re
 from pathlib import Path
 
-# What Rattle's std offers: sums and differences that wrap.
+# What Rattle's std offers: sums and differences that wrap, and the handle of a program that reads and writes, each read
+# and write of which is one of the system's.
 STD = """pub mod num {
 %s}
+
+pub struct HostRuntime;
+
+impl HostRuntime {
+    pub fn stdin(&self) -> &'static std::fs::File { file(0) }
+    pub fn stdout(&self) -> &'static std::fs::File { file(1) }
+}
+
+fn file(descriptor: i32) -> &'static std::fs::File {
+    Box::leak(Box::new(unsafe { std::os::fd::FromRawFd::from_raw_fd(descriptor) }))
+}
 """ % "".join(
     f"    pub fn wrapping_{op}_{t}(x: {t}, y: {t}) -> {t} {{ x.wrapping_{op}(y) }}\n"
     for t in ("u8", "u16", "u32", "u64", "usize")
     for op in ("add", "sub")
 )
-
-# The toolchain's crates that programs use, as far as they do.
-TOOLCHAIN = {
-    "libc": """pub const STDIN_FILENO: i32 = 0;
-pub const STDOUT_FILENO: i32 = 1;
-mod c {
-    extern "C" {
-        pub fn read(fd: i32, bytes: *mut u8, len: usize) -> isize;
-        pub fn write(fd: i32, bytes: *const u8, len: usize) -> isize;
-    }
-}
-pub fn read(fd: i32, bytes: &mut [u8]) -> isize { unsafe { c::read(fd, bytes.as_mut_ptr(), bytes.len()) } }
-pub fn write(fd: i32, bytes: &[u8]) -> isize { unsafe { c::write(fd, bytes.as_ptr(), bytes.len()) } }
-""",
-    "io": """pub fn count(got: isize, bytes: &[u8]) -> usize { got.clamp(0, bytes.len() as isize) as usize }
-pub fn write_all(fd: i32, bytes: &[u8]) -> bool {
-    let mut left = bytes;
-    while !left.is_empty() {
-        let put = count(libc::write(fd, left), left);
-        if put == 0 { return false; }
-        left = &left[put..];
-    }
-    true
-}
-""",
-}
 
 # What a function requires and ensures, maybe by a name; and what is ghost.
 CLAUSE = re.compile(r"\b(?:requires|ensures)\*?(?:\s+[\w'-]+)?\s*\{")
@@ -49,6 +35,7 @@ DERIVED = re.compile(r"#\[derive\(([^)]*)\)\]\s*")
 EXPORTED = re.compile(
     r'#\[unsafe\(no_mangle\)\]\s*pub extern "C" fn (\w+)_in_rattle\(([^)]*)\)\s*(->\s*[^{]*)?\{'
 )
+MAIN = re.compile(r"\bfn main\((\w+): HostRuntime\)([^{]*)\{")
 SLICE = re.compile(r"&(mut )?\[([^;\]]+)\]")
 
 
@@ -109,16 +96,17 @@ def rust(text):
     text = DERIVED.sub(derived, text)
     text = re.sub(r"\bprove!", "debug_assert!", text)
     text = re.sub(r"\bstd::(?=num::wrapping_)", "rattle_std::", text)
+    text = MAIN.sub(r"fn main()\2{ let \1 = rattle_std::HostRuntime;", text)
     return exported(text)
 
 
 # The crates with the C functions. Together they are the static library.
-BOUNDARIES = ["c_header", "c_index", "c_readers", "c_db_file_reader"]
+BOUNDARIES = ["c_header", "c_index", "c_readers_c", "c_db_file_reader"]
 
 
 def crates_of(root, names):
     """The crates and all that they need, the needed ones first, each with those that it names."""
-    needs = {"libc": [], "io": ["libc"]}
+    needs = {}
     for line in (root / "crates.txt").read_text().splitlines():
         if (line := line.split("#")[0].strip()) and ":" in line:
             crate, words = line.split(":", 1)
@@ -139,7 +127,5 @@ def crates_of(root, names):
 
 def translated(crate):
     """The Rust text of each source file of a crate, by its path under src/."""
-    if Path(crate).name in TOOLCHAIN:
-        return {"lib.rs": TOOLCHAIN[Path(crate).name]}
     source = Path(crate) / "src"
     return {str(f.relative_to(source).with_suffix(".rs")): rust(f.read_text()) for f in sorted(source.rglob("*.rt"))}

@@ -17,8 +17,7 @@ use reader_register::register;
 use wal_types::{SharedOwnerRecord, SharedReadMark};
 
 // Takes a reader slot at a mark. card is the byte locks' answers, one for each slot: 0 busy, 1 granted, 2 error.
-#[unsafe(no_mangle)]
-pub extern "C" fn wal_register_reader(
+pub fn wal_register_reader(
     n: usize,
     mode: u32,
     bitmap: &mut [u64],
@@ -49,8 +48,7 @@ pub extern "C" fn wal_register_reader(
 }
 
 // Moves a reader to another mark.
-#[unsafe(no_mangle)]
-pub extern "C" fn wal_update_reader(
+pub fn wal_update_reader(
     n: usize,
     reader_frames: &mut [u64],
     reader_owners: &[u64],
@@ -77,8 +75,7 @@ pub extern "C" fn wal_update_reader(
 }
 
 // Releases a reader's slot. Answers 0, or the number of the refusal.
-#[unsafe(no_mangle)]
-pub extern "C" fn wal_unregister_reader(
+pub fn wal_unregister_reader(
     n: usize,
     mode: u32,
     bitmap: &mut [u64],
@@ -110,8 +107,7 @@ pub extern "C" fn wal_unregister_reader(
 
 // Takes a reader slot at a mark, or joins the connections of this process that share the mark. card is as in
 // wal_register_reader.
-#[unsafe(no_mangle)]
-pub extern "C" fn wal_register_reader_for_snapshot(
+pub fn wal_register_reader_for_snapshot(
     n: usize,
     mode: u32,
     bitmap: &mut [u64],
@@ -153,8 +149,7 @@ pub extern "C" fn wal_register_reader_for_snapshot(
 }
 
 // Releases a shared mark: a holder less, and the last one empties the slot. Answers 0, or the number of the refusal.
-#[unsafe(no_mangle)]
-pub extern "C" fn wal_unregister_reader_for_snapshot(
+pub fn wal_unregister_reader_for_snapshot(
     n: usize,
     mode: u32,
     bitmap: &mut [u64],
@@ -189,8 +184,7 @@ pub extern "C" fn wal_unregister_reader_for_snapshot(
 }
 
 // The least mark above 0 of all live readers. card is as in wal_register_reader.
-#[unsafe(no_mangle)]
-pub extern "C" fn wal_min_active_reader_frame(
+pub fn wal_min_active_reader_frame(
     n: usize,
     mode: u32,
     bitmap: &mut [u64],
@@ -216,8 +210,7 @@ pub extern "C" fn wal_min_active_reader_frame(
 }
 
 // Whether a reader in any process reads only the database file. card is as in wal_register_reader.
-#[unsafe(no_mangle)]
-pub extern "C" fn wal_has_active_db_file_reader(
+pub fn wal_has_active_db_file_reader(
     n: usize,
     mode: u32,
     bitmap: &mut [u64],
@@ -244,8 +237,7 @@ pub extern "C" fn wal_has_active_db_file_reader(
 
 // The frame up to which a checkpoint may copy frames back. max_frame is the published frame, nbackfills the number of
 // frames already copied. card is as in wal_register_reader.
-#[unsafe(no_mangle)]
-pub extern "C" fn wal_copy_back_limit(
+pub fn wal_copy_back_limit(
     n: usize,
     mode: u32,
     max_frame: u64,
