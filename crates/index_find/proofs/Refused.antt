@@ -9,7 +9,7 @@ use Rattle.wal_types.specs.Memory.{Memory, Process}
 use Rattle.wal_types.specs.Refusal.{Test, lowest}
 use Rattle.wal_types.specs.Call.{Call, refused, accepted_or, unless, done, after}
 use Rattle.wal_types.proofs.Refusals.{same_outcome, call_refused}
-use Rattle.index_find.specs.Index.{bad_settings, short_entries, short_index, index_tests, entries_tests, index_refusal, entries_refusal}
+use Rattle.index_find.specs.Index.{bad_settings, short_index, index_tests, entries_tests, index_refusal, entries_refusal}
 
 first_of : (a b : Bool) (rest n : ℕ) → cond a 1 (cond b 2 0) ≡ n → (n ≡ 0 → ⊥) → cond a 1 (cond b 2 rest) ≡ n
 first_of true b rest n e h = e

@@ -1,5 +1,5 @@
 -- find_frame (document 01, "find_frame"). Assumes nothing.
-use Rattle.std.specs.Prelude.{cond, List, [], ℕ, zero, suc, ◌+◌, ◌-◌, ◌*◌, ◌/◌, ◌≤◌, min, eqb, leb, ltb, get_or}
+use Rattle.std.specs.Prelude.{cond, List, [], ℕ, zero, suc, ◌+◌, ◌-◌, ◌/◌, ◌≤◌, min, eqb, leb, ltb, get_or}
 use Rattle.wal_types.specs.Settings.{within, block_entries, entries_for, cells_for}
 use Rattle.wal_types.specs.Memory.{Memory}
 use Rattle.wal_types.specs.Refusal.{lowest}

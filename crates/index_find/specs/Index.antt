@@ -1,5 +1,5 @@
 -- What all calls on the index share: its refusals, its blocks, and the stores of a hash table's clearing and of one entry's naming. Assumes nothing.
-use Rattle.std.specs.Prelude.{◌≡◌, Bool, not, ◌||◌, cond, List, [], ◌∷◌, ◌++◌, ℕ, zero, suc, ◌+◌, ◌*◌, ◌/◌, ◌%◌, ◌<◌, ◌≤◌, ltb, length, get_or, take, drop}
+use Rattle.std.specs.Prelude.{◌≡◌, Bool, not, ◌||◌, cond, List, [], ◌∷◌, ◌++◌, ℕ, zero, suc, ◌+◌, ◌/◌, ◌%◌, ◌<◌, ◌≤◌, ltb, length, get_or, take, drop}
 use Rattle.wal_types.specs.declared.Header.{Header}
 use Rattle.wal_types.specs.Settings.{capacity_in_limits, max_blocks_in_limits, block_entries, block_cells, entries_for, cells_for}
 use Rattle.wal_types.specs.Memory.{Memory, Process, with_header, with_index, Store, to_hash}

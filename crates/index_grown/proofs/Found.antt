@@ -6,7 +6,6 @@ use native.Mathlib.Decide.{ℕ_discrete, dec_le}
 use native.Mathlib.Omega.{arith}
 use lib.ListN.{get_or}
 use borrow.Author.Tests.{le-leb, lt-leb, lt-ltb, le-ltb}
-use Rattle.wal_types.specs.Settings.{within}
 use Rattle.wal_types.specs.Memory.{Memory}
 use Rattle.wal_types.specs.Call.{none, Pair, pair}
 use Rattle.index_hash.specs.declared.Probe.{Probe}

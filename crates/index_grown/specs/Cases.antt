@@ -1,8 +1,8 @@
 -- Document 01's table of proved cases, in one table: homes of pages, then lookups and lists after its three records on fresh memory. Assumes nothing.
-use Rattle.std.specs.Prelude.{◌≡◌, false, List, [], ◌∷◌, ℕ, ◌≤◌}
+use Rattle.std.specs.Prelude.{◌≡◌, false, [], ◌∷◌, ℕ, ◌≤◌}
 use Rattle.wal_types.specs.Memory.{Memory, Process}
 use Rattle.wal_types.specs.Fresh.{Fresh}
-use Rattle.wal_types.specs.Call.{Pair, pair, Answer, frame_found, none, listed, Done, after}
+use Rattle.wal_types.specs.Call.{pair, Answer, frame_found, none, listed, Done, after}
 use Rattle.index_hash.specs.Home.{home}
 use Rattle.index_record.specs.Record.{record_frame}
 use Rattle.index_find.specs.declared.find.Watermark.{Watermark}

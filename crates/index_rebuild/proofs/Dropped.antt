@@ -2,7 +2,7 @@
 -- nothing.
 use mathlib.Core.Path.{◌≡◌, refl, sym, ap, ◌∙◌}
 use mathlib.Core.List.{List}
-use Prim.Native.Nat.{ℕ, zero, suc, ◌+◌, ◌-◌, ◌*◌, ◌/◌, ◌%◌, ◌^◌, ◌<◌, ◌≤◌}
+use Prim.Native.Nat.{ℕ, zero, suc, ◌+◌, ◌-◌, ◌/◌, ◌%◌, ◌^◌, ◌<◌}
 use native.Mathlib.Nat.{pow-suc}
 use native.Mathlib.Decide.{ℕ_discrete, dec_lt}
 use native.Mathlib.Omega.{arith}
@@ -19,7 +19,7 @@ use Rattle.index_hash.specs.Home.{home}
 use Rattle.index_hash.specs.Block.{empty_from, empty_cell}
 use Rattle.index_hash.proofs.Empty.{by_test, set_cell}
 use Rattle.index_hash.proofs.Home.{home_below}
-use Rattle.index_search.specs.InnerRun.{All, Used}
+use Rattle.index_search.specs.InnerRun.{Used}
 use Rattle.index_search.proofs.Passed.{found_on, found_round}
 use Rattle.index_rebuild.specs.InnerMap.{Clear, ClearWord, ClearCell, Way, WordsTell, Tells, without_word, without_cell}
 use Rattle.index_rebuild.proofs.Ways.{way_map}

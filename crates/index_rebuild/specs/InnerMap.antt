@@ -1,6 +1,6 @@
 -- The map of a block's cells that a rebuild keeps: a bit for each cell, 64 to a word, 0 where the cell is known to be used; and
 -- behind these 128 words two more with a bit for each word, 0 where the word is 0. Assumes nothing.
-use Rattle.std.specs.Prelude.{◌≡◌, cond, List, ℕ, ◌+◌, ◌-◌, ◌/◌, ◌%◌, ◌<◌, ◌≤◌, eqb, length, get_or, set}
+use Rattle.std.specs.Prelude.{◌≡◌, cond, List, ℕ, ◌+◌, ◌-◌, ◌/◌, ◌%◌, ◌<◌, ◌≤◌, eqb, get_or, set}
 use Rattle.wal_types.specs.Memory.{bit_at}
 use Rattle.word_bits.specs.Bit.{clear_bit}
 use Rattle.index_search.specs.InnerRun.{All, Used}

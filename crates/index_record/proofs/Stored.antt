@@ -1,11 +1,10 @@
 -- What a record and a rollback store to: the index's lists and its three cells of the header. Said of their lists of stores, for whatever holds of a store to one of these. Assumes nothing.
 use mathlib.Core.Bool.{Bool, not}
-use mathlib.Core.List.{List}
 use Prim.Native.Nat.{ℕ, zero, suc, ◌+◌, ◌-◌, ◌*◌}
 use lib.Dec.{eqb, ltb}
 use lib.ListN.{get_or}
-use Rattle.wal_types.specs.Memory.{Memory, IndexPart, HeaderCell, frame_index_blocks_cell, frame_index_len_cell, frame_index_overflowed_cell, Store, to_header, to_index, to_page, to_frame_cell}
-use Rattle.wal_types.specs.Store.{Piece, one, when, ◌then◌}
+use Rattle.wal_types.specs.Memory.{IndexPart, frame_index_blocks_cell, frame_index_len_cell, frame_index_overflowed_cell, Store, to_header, to_index, to_page, to_frame_cell}
+use Rattle.wal_types.specs.Store.{one, when, ◌then◌}
 use Rattle.wal_types.specs.Call.{stored, dropped, kept, does}
 use Rattle.wal_types.proofs.Every.{Every, EveryOf, EveryOfCall, every_then, every_when, every_cond_of, every_unless}
 use Rattle.index_hash.specs.declared.Cell.{Cell}

@@ -9,7 +9,7 @@ use lib.Dec.{eqb}
 use lib.ListN.{get_or}
 use Rattle.wal_types.specs.Memory.{bit_at}
 use Rattle.word_bits.specs.Bit.{clear_bit, Lowest}
-use Rattle.word_bits.proofs.Bits.{clear_same, clear_other, clear_less}
+use Rattle.word_bits.proofs.Bits.{clear_other, clear_less}
 use Rattle.reader_slots.specs.declared.slots.Slot.{Slot}
 use Rattle.reader_slots.specs.declared.slots.Slot.TheVariants.{At, Nothing}
 use Rattle.reader_slots.specs.Search.{lowest_slot}

@@ -7,7 +7,6 @@ use lib.Dec.{eqb, ltb}
 use lib.ListN.{get_or}
 use Rattle.wal_types.specs.declared.SharedWalOwnershipMode.{SharedWalOwnershipMode}
 use Rattle.wal_types.specs.Memory.{Memory, Process, to_header, no_mark}
-use Rattle.wal_types.specs.Refusal.{Test, lowest, rising}
 use Rattle.wal_types.specs.Call.{Answer, ok, flag, stored, dropped, none, Outcome, does, if_refused, accepted_or}
 use Rattle.header_publish.specs.Publish.{publish_commit, publish_backfill, bump_checkpoint_seq, bump_checkpoint_epoch}
 use Rattle.header_locks.specs.declared.Lock.{Lock}
@@ -35,7 +34,7 @@ use Rattle.reader_marks.specs.declared.Record.{Record}
 use Rattle.reader_marks.specs.declared.Record.TheVariants.{At as AtRecord, Nothing as NoRecord}
 use Rattle.reader_marks.specs.Registry.{one_less, record_of, with_record}
 use Rattle.reader_shared.specs.Shared.{last_holder, shares, unshares, register_reader_for_snapshot, unregister_reader_for_snapshot}
-use Rattle.sequence.specs.Sequence.{Settings, LookOp, IndexOp, HeaderOp, ProbeOp, SlotOp, SharedOp, Op, perform, find_op, list_op, between_op, nearest_op, record_op, rollback_op, acquire_op, unlock_op, backfill_op, seq_op, epoch_op, floor_op, limit_op, db_reader_op, register_op, move_op, release_op, share_op, unshare_op, look_op, index_op, commit_op, header_op, probe_op, slot_op, shared_op}
+use Rattle.sequence.specs.Sequence.{Settings, LookOp, IndexOp, HeaderOp, ProbeOp, SlotOp, SharedOp, find_op, list_op, between_op, nearest_op, record_op, rollback_op, acquire_op, unlock_op, backfill_op, seq_op, epoch_op, floor_op, limit_op, db_reader_op, register_op, move_op, release_op, share_op, unshare_op, look_op, index_op, commit_op, header_op, probe_op, slot_op, shared_op}
 use Rattle.sequence.specs.Order.{RefusedInOrder, RefusalsInOrder}
 
 -- the number of a refusal, 0 of any other answer

@@ -1,13 +1,13 @@
 -- What the calls on readers store to: the lists of the reader slots, and nothing else. Said of their lists of stores, for whatever holds of a store to one of these. Assumes nothing.
-use mathlib.Core.Bool.{Bool, true, false, cond}
+use mathlib.Core.Bool.{Bool}
 use mathlib.Core.List.{List, []}
 use Prim.Native.Nat.{ℕ, zero, suc, ◌+◌}
 use lib.ListN.{get_or}
 use Rattle.wal_types.specs.declared.SharedWalOwnershipMode.{SharedWalOwnershipMode}
 use Rattle.wal_types.specs.declared.SharedWalOwnershipMode.TheVariants.{LinuxOfd, ProcessScopedFcntl}
 use Rattle.wal_types.specs.Memory.{Memory, Process, no_mark, SlotPart, Store, to_slots, to_reader_frame}
-use Rattle.wal_types.specs.Store.{one, when, ◌then◌}
-use Rattle.wal_types.specs.Call.{Outcome, ok, flag, value, slot_taken, does}
+use Rattle.wal_types.specs.Store.{one, when}
+use Rattle.wal_types.specs.Call.{ok, flag, value, slot_taken, does}
 use Rattle.wal_types.proofs.Every.{EveryOf, EveryOfCall, every_then, every_when, every_cond, every_unless}
 use Rattle.reader_slots.specs.declared.slots.Slot.{Slot}
 use Rattle.reader_slots.specs.declared.slots.Slot.TheVariants.{At as SlotAt, Nothing as NoSlot}

@@ -10,7 +10,6 @@ use lib.ListN.{get_or}
 use borrow.Author.Tests.{eqb-true, eqb-false, eq-eqb, ne_eqb, not-true}
 use Rattle.wal_types.specs.declared.SharedReadMark.{SharedReadMark}
 use Rattle.wal_types.specs.Memory.{Process, no_mark}
-use Rattle.wal_types.specs.Refusal.{lowest}
 use Rattle.reader_slots.specs.declared.slots.Slot.{Slot}
 use Rattle.reader_slots.specs.declared.slots.Slot.TheVariants.{At as SlotAt, Nothing as NoSlot}
 use Rattle.reader_slots.specs.Slots.{is_in_registry}

@@ -87,7 +87,7 @@ on_slot s (register_op owner mark bytes) = register_reader s.slots s.mode owner 
 on_slot s (move_op slot owner mark) = update_reader s.slots slot owner mark
 on_slot s (release_op slot owner) = unregister_reader s.slots s.mode slot owner
 
--- Calls on their process's registry too (register_db_file_reader is a share-op at mark 0).
+-- Calls on their process's registry too (register_db_file_reader is a share_op at mark 0).
 pub data SharedOp : Type 0 where
   share_op : (owner mark : ℕ) (bytes : List ℕ) → SharedOp
   unshare_op : (mark slot owner : ℕ) → SharedOp

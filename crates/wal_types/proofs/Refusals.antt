@@ -11,7 +11,7 @@ use lib.Dec.{ltb}
 use borrow.Author.Tests.{ltb-true}
 use Rattle.wal_types.specs.Memory.{Memory, Process}
 use Rattle.wal_types.specs.Store.{apply}
-use Rattle.wal_types.specs.Refusal.{Refusal, Test, number, lowest, rising_from, rising, IsLowest}
+use Rattle.wal_types.specs.Refusal.{Test, number, lowest, rising_from, rising, IsLowest}
 use Rattle.wal_types.specs.Call.{Call, Outcome, refused, refusal, accepted_or, unless, done, after}
 
 -- a number that is not 0 refuses

@@ -1,4 +1,3 @@
-use Rattle.reader_floor.proofs.Floored.{no_floor}
 use Rattle.c_reader_replies.proofs.floor_told.Goals as goal
 
 pub returns-in_default : goal.returns-in_default

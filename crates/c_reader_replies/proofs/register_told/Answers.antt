@@ -1,4 +1,3 @@
-use Rattle.c_reader_replies.proofs.Neither.{no_slot_left}
 use Rattle.c_reader_replies.proofs.register_told.Goals as goal
 
 pub returns-in_default : goal.returns-in_default

@@ -1,4 +1,3 @@
-use Rattle.c_reader_replies.proofs.Neither.{none_shared}
 use Rattle.c_reader_replies.proofs.share_told.Goals as goal
 
 pub returns-in_default : goal.returns-in_default

@@ -1,4 +1,4 @@
-use Prim.Native.Nat.{ℕ, ◌-◌}
+use Prim.Native.Nat.{ℕ}
 use mathlib.Core.Path.{ap}
 use Rattle.index_hash.specs.Home.{next_cell}
 use Rattle.index_hash.specs.Block.{empty_from}

@@ -34,4 +34,3 @@ returns c =
     let s = c.list_large in
     listed_or_short a.capacity a.max_blocks a.header a.pages.now a.frames.now a.hash.now a.min_frame a.max_frame a.out_pages.now a.out_frames.now s.new.out_pages s.new.out_frames
     (sym c.if-number-ne0.false ∙ c.index_refusal-number.ensures) _ c.visible_frame_index_slots-visible.ensures.0 s.result s.ensures
-

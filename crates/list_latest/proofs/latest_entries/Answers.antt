@@ -15,4 +15,3 @@ returns c =
     let a = c.args in
     let t = length-take-le c.gather-gathered.result c.sort_by_page.new.list (omega arith) in
     (omega arith, c.choose.ensures.1 ∙ ap (in_bounds a.frames.now a.min_frame a.max_frame) (ap (firsts a.pages.now) c.sort_by_page.ensures ∙ latest_chosen _ _ _ _ (λ e. (c.type_inv.pages e).fits) c.gather-gathered.ensures.1))
-

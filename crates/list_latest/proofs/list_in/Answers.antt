@@ -19,4 +19,3 @@ slice_bounds-write_pairs-end-2 c = sym (length-take-le c.latest_entries-count.re
 
 pub write_pairs-requires : goal.write_pairs-requires
 write_pairs-requires c = let t = length-take-le c.latest_entries-count.result c.latest_entries-count.new.spare (omega arith) in (omega arith, omega arith)
-

@@ -25,6 +25,7 @@ pub returns : goal.returns
 returns c =
     let i = c.loop-rest.invariant in
     (blocks_done _ _ _ _ _ _ _ _ c.loop-rest-test.false ∙ i.1.0, cells_done _ _ _ _ _ _ _ _ _ _ c.loop-rest-test.false i.1.1)
+
 pub returns-in-Frame : goal.returns-in-Frame
 returns-in-Frame c =
     let i = c.loop-rest.invariant in
@@ -40,4 +41,3 @@ loop-rest-preserved c =
     let probed = c.probe_block-probed.ensures in
     let here = looked_in_block _ _ c.args.frames.now _ _ c.args.min_frame c.args.max_frame _ _ _ c.frame_found-found.ensures probed.0 in
     (omega arith, (block_passed _ _ _ _ _ _ _ _ _ taken here c.in_default.is ∙ i.1.0, cells_passed _ _ _ _ _ _ _ _ _ _ _ taken i.1.1 probed.1 _ here c.in_default.is))
-

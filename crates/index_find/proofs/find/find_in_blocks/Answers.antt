@@ -27,4 +27,3 @@ returns-in-Left c =
     let told = c.in-Left.ensures in
     let rest = c.find_along_runs-rest.ensures in
     (rest.0 ∙ told.1.0, omega (arith, told.1.1, rest.1))
-

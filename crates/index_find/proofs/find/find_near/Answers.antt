@@ -1,5 +1,4 @@
-use mathlib.Core.Path.{refl, subst, ◌∙◌}
-use Rattle.index_search.specs.InnerRun.{Answers}
+use mathlib.Core.Path.{refl, ◌∙◌}
 use Rattle.index_find.proofs.Blockwise.{found_in_block, looked_in_block, block_found, block_passed, block_back, blocks_done, cells_found, cells_passed, cells_back, cells_done, cells_small}
 use native.Mathlib.Omega.{arith}
 use Rattle.index_find.proofs.find.find_near.Goals as goal
@@ -37,6 +36,7 @@ pub returns : goal.returns
 returns c =
     let i = c.loop-k.invariant in
     (blocks_done _ _ _ _ _ _ _ _ c.loop-k-test.false ∙ i.1.0, cells_done _ _ _ _ _ _ _ _ _ _ c.loop-k-test.false i.1.1)
+
 pub returns-in-Frame : goal.returns-in-Frame
 returns-in-Frame c =
     let i = c.loop-k.invariant in
@@ -52,4 +52,3 @@ loop-k-preserved c =
     let probed = c.in-Ended.ensures in
     let here = looked_in_block _ _ c.args.frames.now _ _ c.args.min_frame c.args.max_frame _ _ _ c.frame_found-found.ensures probed.0 in
     (omega arith, (block_passed _ _ _ _ _ _ _ _ _ taken here c.in_default-found.is ∙ i.1.0, cells_passed _ _ _ _ _ _ _ _ _ _ _ taken i.1.1 probed.1 _ here c.in_default-found.is))
-

@@ -1,7 +1,6 @@
 use mathlib.Core.Path.{sym, subst}
 use Rattle.index_rebuild.proofs.Dropped.{cell_dropped, found_way}
 use Rattle.index_rebuild.specs.InnerMap.{Tells}
-use Prim.Native.Nat.{◌-◌}
 use native.Mathlib.Omega.{arith}
 use Rattle.index_rebuild.proofs.map.empty_by_map.Goals as goal
 

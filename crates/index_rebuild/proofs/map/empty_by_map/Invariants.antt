@@ -2,7 +2,7 @@
 use mathlib.Core.Path.{◌≡◌}
 use Rattle.index_rebuild.specs.InnerMap.{Tells}
 use lib.ListN.{length}
-use Prim.Native.Nat.{◌≤◌, ◌<◌, ◌-◌}
+use Prim.Native.Nat.{◌≤◌, ◌<◌}
 use Rattle.index_rebuild.proofs.map.empty_by_map.Given as goal
 
 abbrev pub invariant-loop : goal.invariant-loop

@@ -1,9 +1,7 @@
 use Rattle.index_hash.proofs.Built.{built_more}
 use Rattle.index_hash.specs.Block.{built}
-use Prim.Native.Nat.{◌-◌}
 use mathlib.Core.Path.{ap, ◌∙◌}
 use native.Mathlib.Omega.{arith}
-use borrow.Author.Rules.{rules}
 use Rattle.index_rebuild.proofs.rebuild.insert_all.Goals as goal
 
 pub loop-init : goal.loop-init

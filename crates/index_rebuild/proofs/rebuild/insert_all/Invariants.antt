@@ -1,7 +1,7 @@
 -- The loop's invariant: the table is the one built from the entries before the next.
 use Rattle.index_hash.specs.Block.{built}
 use lib.ListN.{length}
-use Prim.Native.Nat.{◌-◌, ◌≤◌}
+use Prim.Native.Nat.{◌≤◌}
 use mathlib.Core.Path.{◌≡◌}
 use Rattle.index_rebuild.proofs.rebuild.insert_all.Given as goal
 

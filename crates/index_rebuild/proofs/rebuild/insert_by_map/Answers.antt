@@ -6,7 +6,7 @@ use Rattle.index_hash.proofs.Empty.{found_below, inserted_at}
 use Rattle.index_hash.specs.Block.{built, empty_cell}
 use Rattle.index_hash.specs.declared.Cell.TheVariants.{Full}
 use mathlib.Core.List.{List}
-use Prim.Native.Nat.{ℕ, ◌<◌, ◌-◌}
+use Prim.Native.Nat.{ℕ, ◌<◌}
 use mathlib.Core.Path.{◌≡◌, sym, ap, ◌∙◌, subst}
 use native.Mathlib.Omega.{arith}
 use borrow.Author.Rules.{rules}

@@ -2,7 +2,7 @@
 use Rattle.index_rebuild.specs.InnerMap.{Tells}
 use Rattle.index_hash.specs.Block.{built}
 use lib.ListN.{length}
-use Prim.Native.Nat.{◌≤◌, ◌-◌}
+use Prim.Native.Nat.{◌≤◌}
 use mathlib.Core.Path.{◌≡◌}
 use Rattle.index_rebuild.proofs.rebuild.insert_by_map.Given as goal
 

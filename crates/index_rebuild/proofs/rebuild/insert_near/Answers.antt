@@ -2,7 +2,6 @@ use Rattle.index_search.proofs.Passed.{found_near}
 use Rattle.index_hash.proofs.Built.{built_more}
 use Rattle.index_hash.proofs.Empty.{found_below, inserted_at}
 use Rattle.index_hash.specs.Block.{built}
-use Prim.Native.Nat.{◌-◌}
 use mathlib.Core.Path.{sym, ap, ◌∙◌}
 use native.Mathlib.Omega.{arith}
 use borrow.Author.Rules.{rules}

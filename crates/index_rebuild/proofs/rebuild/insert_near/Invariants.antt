@@ -1,7 +1,7 @@
 -- The loop's invariant: the table is the one built from the entries passed.
 use Rattle.index_hash.specs.Block.{built}
 use lib.ListN.{length}
-use Prim.Native.Nat.{◌-◌, ◌≤◌}
+use Prim.Native.Nat.{◌≤◌}
 use mathlib.Core.Path.{◌≡◌}
 use Rattle.index_rebuild.proofs.rebuild.insert_near.Given as goal
 

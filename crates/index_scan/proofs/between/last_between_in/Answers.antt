@@ -1,5 +1,4 @@
 use mathlib.Core.Path.{refl, sym, ◌∙◌}
-use Prim.Native.Nat.{◌-◌}
 use Rattle.index_scan.proofs.Choices.{turn_between, turn_beyond, turn_other, turns_done}
 use native.Mathlib.Omega.{arith}
 use Rattle.index_scan.proofs.between.last_between_in.Goals as goal

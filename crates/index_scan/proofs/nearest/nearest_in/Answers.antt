@@ -1,5 +1,4 @@
 use mathlib.Core.Path.{◌∙◌}
-use Prim.Native.Nat.{◌-◌}
 use Rattle.index_scan.proofs.Distances.{turn_of_page, turn_of_other, all_entries}
 use native.Mathlib.Omega.{arith}
 use Rattle.index_scan.proofs.nearest.nearest_in.Goals as goal

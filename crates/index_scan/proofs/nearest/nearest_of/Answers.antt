@@ -1,4 +1,3 @@
-use Prim.Native.Nat.{◌-◌}
 use Rattle.index_scan.proofs.Distances.{look_passed, look_further, none_yet}
 use native.Mathlib.Omega.{arith}
 use Rattle.index_scan.proofs.nearest.nearest_of.Goals as goal

@@ -1,6 +1,6 @@
 use Rattle.index_search.proofs.Passed.{met_passed, met_last, met_nothing}
 use Rattle.index_search.proofs.Runs.{other_seen}
-use borrow.Author.Tests.{eqb-true, not-true, not-false}
+use borrow.Author.Tests.{eqb-true, not-false}
 use mathlib.Core.Path.{◌≡◌, sym, ◌∙◌}
 use Prim.Native.Nat.{◌-◌}
 use native.Mathlib.Omega.{arith}

@@ -1,6 +1,4 @@
-use borrow.Author.Tests.{not-false}
-use Rattle.index_search.proofs.Runs.{all_none, all_join}
-use Prim.Native.Nat.{◌-◌}
+use Rattle.index_search.proofs.Runs.{all_none}
 use native.Mathlib.Omega.{arith}
 use Rattle.index_search.proofs.probe.pass_others.Goals as goal
 

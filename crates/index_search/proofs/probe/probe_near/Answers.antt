@@ -1,6 +1,5 @@
 use Rattle.index_search.proofs.Passed.{next_turn, probe_start, probe_here, named_used, looked_start, count_empty, count_hidden, count_live}
 use Rattle.index_hash.proofs.Turns.{probe_at_empty, probe_at_hidden, probe_at_other, probe_at_page}
-use Prim.Native.Nat.{◌+◌, ◌-◌}
 use native.Mathlib.Omega.{arith}
 use Rattle.index_search.proofs.probe.probe_near.Goals as goal
 use Rattle.index_search.proofs.probe.probe_near.Goals.{then-pages-local_plus_one, else-pages-local_plus_one}
@@ -34,8 +33,8 @@ loop-turn-preserved c =
       omega arith,
       rw (← next_turn _ _) (
         elim c.if-pages-local_plus_one.branch [
-          then-pages-local_plus_one w ↦ rw (w.latest-is, named_used _ used) (probe_at_page _ _ _ _ _ _ _ _ (probe_here _ _ _ _ _ _ _ _ (omega arith) i.1.0) used _ (omega arith) (omega arith) w.if-pages-local_plus_one.true)
-        | else-pages-local_plus_one w ↦ rw w.latest-is (probe_at_other _ _ _ _ _ _ _ _ (probe_here _ _ _ _ _ _ _ _ (omega arith) i.1.0) used _ (omega arith) (omega arith) w.if-pages-local_plus_one.false)
+          | then-pages-local_plus_one w ↦ rw (w.latest-is, named_used _ used) (probe_at_page _ _ _ _ _ _ _ _ (probe_here _ _ _ _ _ _ _ _ (omega arith) i.1.0) used _ (omega arith) (omega arith) w.if-pages-local_plus_one.true)
+          | else-pages-local_plus_one w ↦ rw w.latest-is (probe_at_other _ _ _ _ _ _ _ _ (probe_here _ _ _ _ _ _ _ _ (omega arith) i.1.0) used _ (omega arith) (omega arith) w.if-pages-local_plus_one.false)
         ],
         count_live _ _ _ _ _ _ (omega arith) (omega arith) i.1.1 used (omega arith) _ (omega arith),
       ),

@@ -1,7 +1,4 @@
-use Rattle.index_search.proofs.Runs.{all_none, all_one, all_join, live_seen, live_unseen}
-use borrow.Author.Tests.{not-true, not-false}
-use mathlib.Core.Path.{sym, ◌∙◌}
-use Prim.Native.Nat.{◌-◌}
+use Rattle.index_search.proofs.Runs.{all_none}
 use native.Mathlib.Omega.{arith}
 use Rattle.index_search.proofs.run.near_live_until.Goals as goal
 

@@ -1,5 +1,4 @@
 use Rattle.reader_slots.proofs.Words.{available_start, available_end, word_found, word_none}
-use Prim.Native.Nat.{◌-◌}
 use mathlib.Core.Path.{sym, ◌∙◌}
 use native.Mathlib.Omega.{arith}
 use Rattle.reader_slots.proofs.available.available_slot.Goals as goal

@@ -2,7 +2,7 @@
 use Rattle.reader_slots.proofs.Words.{available_from}
 use Rattle.reader_slots.specs.Search.{lowest_slot}
 use Rattle.reader_slots.specs.Inner.{available_by}
-use Prim.Native.Nat.{◌-◌, ◌*◌, ◌+◌, ◌/◌, ◌≤◌}
+use Prim.Native.Nat.{◌*◌, ◌+◌, ◌/◌, ◌≤◌}
 use mathlib.Core.Path.{◌≡◌}
 use Rattle.reader_slots.proofs.available.available_slot.Given as goal
 

@@ -1,5 +1,4 @@
 use Rattle.reader_slots.proofs.Card.{greatest_start, greatest_turn, greatest_end}
-use Prim.Native.Nat.{◌-◌}
 use native.Mathlib.Omega.{arith}
 use Rattle.reader_slots.proofs.slots.greatest_byte.Goals as goal
 

@@ -2,7 +2,7 @@
 use Rattle.reader_slots.proofs.Card.{greatest_from}
 use Rattle.reader_slots.specs.Inner.{greatest}
 use lib.ListN.{length}
-use Prim.Native.Nat.{◌-◌, ◌≤◌}
+use Prim.Native.Nat.{◌≤◌}
 use mathlib.Core.Path.{◌≡◌}
 use Rattle.reader_slots.proofs.slots.greatest_byte.Given as goal
 

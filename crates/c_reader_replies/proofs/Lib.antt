@@ -1,2 +1,0 @@
--- Answers that are neither found nor refused.
-mod Neither
