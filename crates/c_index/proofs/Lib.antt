@@ -1,4 +1,3 @@
 -- Laws of the C functions of the index calls.
-mod IndexReplies
 mod LookupReplies
 mod SearchReplies

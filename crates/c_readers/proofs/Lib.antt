@@ -1,3 +1,2 @@
--- Laws of the C functions of the reader calls, and of a slice that is lent again.
+-- Laws of the C functions of the reader calls.
 mod ReaderReplies
-mod Again

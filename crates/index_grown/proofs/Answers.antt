@@ -43,21 +43,21 @@ module _ (capacity b : ℕ) (m : Memory) (grown : Grown capacity b m) where
       )
 
   module _ (p : Process) where
-    find-answers : (page low high : ℕ) (w : Watermark) (a : Answer) → number_of ≡ 0 → find_answer page low high w m ≡ a → after (find_frame capacity b page low high w) m p ≡ done a m p
+    find_answers : (page low high : ℕ) (w : Watermark) (a : Answer) → number_of ≡ 0 → find_answer page low high w m ≡ a → after (find_frame capacity b page low high w) m p ≡ done a m p
     unfolding find_frame
-    find-answers page low high w a passed e =
+    find_answers page low high w a passed e =
         index_passed capacity b (λ m p. []) (λ m. does (find_answer page low high w m) (λ z. []) m) m p passed ∙ ap (λ (x : Answer). done x m p) e
 
     -- a lookup answers the greatest frame of the page within the bounds, or none; and changes nothing
     pub find_done : (page low high : ℕ) → number_of ≡ 0 → after (find_frame capacity b page low high NoWatermark) m p ≡ done (lookup_answer (greatest (entries m) page low high)) m p
-    find_done page low high passed = find-answers page low high NoWatermark _ passed (lookup_gives capacity b m grown page low high)
+    find_done page low high passed = find_answers page low high NoWatermark _ passed (lookup_gives capacity b m grown page low high)
 
     -- with a watermark below min: none; else the greatest frame of the page up to it
     pub find_below : (page low high w : ℕ) → number_of ≡ 0 → w < low → after (find_frame capacity b page low high (UpTo w)) m p ≡ done none m p
-    find_below page low high w passed l = find-answers page low high (UpTo w) none passed (lookup_below capacity b m grown page low high w l)
+    find_below page low high w passed l = find_answers page low high (UpTo w) none passed (lookup_below capacity b m grown page low high w l)
 
     pub find_watermark : (page low high w : ℕ) → number_of ≡ 0 → low ≤ w → after (find_frame capacity b page low high (UpTo w)) m p ≡ done (lookup_answer (greatest (entries m) page 0 w)) m p
-    find_watermark page low high w passed l = find-answers page low high (UpTo w) _ passed (lookup_watermark capacity b m grown page low high w l)
+    find_watermark page low high w passed l = find_answers page low high (UpTo w) _ passed (lookup_watermark capacity b m grown page low high w l)
 
     -- BY CASES: a lookup without a watermark is refused, or answers by the entries; in both it changes nothing
     pub find_cases : (page low high : ℕ) (P : Done → Type 0) → ((n : ℕ) → P (done (refused n) m p)) → P (done (lookup_answer (greatest (entries m) page low high)) m p) → P (after (find_frame capacity b page low high NoWatermark) m p)

@@ -1,13 +1,9 @@
 -- The refusals of the calls that probe slots, and the calls that are accepted. Assumes nothing.
-use mathlib.Core.Path.{◌≡◌, refl, sym, ◌∙◌}
+use mathlib.Core.Path.{◌≡◌, sym, ◌∙◌}
 use mathlib.Core.Bool.{Bool}
 use mathlib.Core.List.{List, [], ◌∷◌}
-use mathlib.Core.Logic.{inl, inr}
 use Prim.Native.Nat.{ℕ}
-use native.Mathlib.Omega.{arith}
 use lib.ListN.{length}
-use types.Run.{OneOf}
-use denote.Enum.Declared.{tag_of}
 use Rattle.wal_types.specs.declared.SharedWalOwnershipMode.{SharedWalOwnershipMode}
 use Rattle.wal_types.specs.Memory.{Memory, Process}
 use Rattle.wal_types.specs.Refusal.{Test, ◌if◌, lowest, card, probe}
@@ -17,9 +13,6 @@ use Rattle.reader_probe.specs.declared.live.Floor.TheVariants.{Mark, NoMark}
 use Rattle.reader_slots.specs.Slots.{is_bad_card, slots_in, locals_in, ReaderCall}
 use Rattle.reader_slots.specs.Search.{lowest_slot, some_slot, found_slot}
 use Rattle.reader_probe.specs.declared.live.LiveMarks.{LiveMarks}
-use Rattle.reader_floor.specs.declared.floor.MinFrame.{MinFrame}
-use Rattle.reader_floor.specs.declared.floor.MinFrame.TheVariants.{Floor as Least, NoFloor, Refused as NotTold}
-use Rattle.reader_floor.specs.contracts.floor.MinFrame as MinFrameType
 use Rattle.reader_floor.specs.Floor.{probe_tests, floor_of, floor_answer, db_file_reader_of, reclaim_dead, min_active_reader_frame, has_active_db_file_reader}
 use Rattle.reader_probe.specs.Live.{looked_at}
 use Rattle.reader_slots.specs.Inner.{slots_tests, slots_refusal}
@@ -87,12 +80,6 @@ module _ (n : ℕ) (mode : SharedWalOwnershipMode) (bytes b f o l : List ℕ) (k
 
     pub floor_mark : (mark : ℕ) → r.floor ≡ Mark mark → ReaderCall (min_active_reader_frame n mode bytes) b f o l (frame_found mark) b' f' o' l
     floor_mark mark x z p = rw x at (floor_accepted z p)
-
--- an answer of the floor that is neither a floor nor a refusal
-pub no_floor : (r : MinFrame) → OneOf (1 ∷ 2 ∷ []) (tag_of MinFrameType.the_type r) → OneOf (0 ∷ 1 ∷ []) (tag_of MinFrameType.the_type r) → r ≡ NoFloor
-no_floor (Least mark) v w = absurd (elim v [ inl q ↦ (let z : ◌≡◌ {A = ℕ} 0 1 = q in omega arith) | inr q ↦ (let z : ◌≡◌ {A = ℕ} 0 2 = q in omega arith) ])
-no_floor NoFloor v w = refl
-no_floor (NotTold k) v w = absurd (elim w [ inl q ↦ (let z : ◌≡◌ {A = ℕ} 2 0 = q in omega arith) | inr q ↦ (let z : ◌≡◌ {A = ℕ} 2 1 = q in omega arith) ])
 
 -- has_active_db_file_reader, which probes no further than the first slot that it finds
 module _ (n : ℕ) (mode : SharedWalOwnershipMode) (bytes b f o l : List ℕ) (k : ℕ) (e : k ≡ slots_refusal n (length b) (length f) (length o) (length l)) where

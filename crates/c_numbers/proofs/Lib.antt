@@ -1,2 +1,0 @@
--- Laws of answers with three cases.
-pub mod Cases
