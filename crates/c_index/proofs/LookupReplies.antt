@@ -17,8 +17,8 @@ use Rattle.c_index.specs.LookupReplied.{FindTold, FindReplied, ListTold, ListRep
 find_told_by : (r : FindReply) (cells : ℕ) (z : Memory) (h : Header) (ps fs hs : List ℕ) (p : Process) {d e : Done} → d ≡ e → FindTold r cells z h ps fs hs p e → FindTold r cells z h ps fs hs p d
 find_told_by r cells z h ps fs hs p q t = rw q t
 
-module _ (call : Call) (number_of_lem : Memory → ℕ) (h : Header) (ps fs hs : List ℕ) where
-  pub find_told : (a : Answer) (cells : ℕ) → IndexCall call h ps fs hs a h ps fs hs → IndexNumber number_of_lem h ps fs hs cells → FindReplied call number_of_lem h ps fs hs (find_reply a cells)
+module _ (call : Call) (number_of : Memory → ℕ) (h : Header) (ps fs hs : List ℕ) where
+  pub find_told : (a : Answer) (cells : ℕ) → IndexCall call h ps fs hs a h ps fs hs → IndexNumber number_of h ps fs hs cells → FindReplied call number_of h ps fs hs (find_reply a cells)
   find_told a cells e n z p =
       find_told_by _ _ z h _ _ _ p (e z p) (record { refusal_told = refl; found_told = refl; frame_told = refl; cells_told = n z; memory_left = refl; process_left = refl })
 

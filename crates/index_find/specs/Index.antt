@@ -111,7 +111,7 @@ IndexCall call = IndexCarried (after call)
 
 -- On any memory with this header and index in it, the number is c.
 abbrev pub IndexNumber : (Memory → ℕ) → Header → List ℕ → List ℕ → List ℕ → ℕ → Type 0
-IndexNumber number_of_lem h pages frames hash c = (z : Memory) → c ≡ number_of_lem (index_in z h pages frames hash)
+IndexNumber number_of h pages frames hash c = (z : Memory) → c ≡ number_of (index_in z h pages frames hash)
 
 -- a memory with this header and these entries in it, and any hash
 abbrev pub entries_in : Memory → Header → List ℕ → List ℕ → Memory

@@ -66,7 +66,7 @@ module _ (ps fs : List ℕ) (page low high : ℕ) where
       ap best e ∙ (best_same (v + more) (frame_above page low high (entry ps fs (v + more)) (above (v + more) (omega arith) (omega arith))) ∙ best_past v more (λ i l b. above i l (omega arith)))
 
   -- One block, of base on: the latest entry of the page there, if within the bounds, else what the entries before give.
-  module _ (v : ℕ) (rise : FramesRise v fs) (Visible_All : (i : ℕ) → i < v → get_or fs i 0 ≤ high) (k : ℕ) (bp : List ℕ) where
+  module _ (v : ℕ) (rise : FramesRise v fs) (visible_all : (i : ℕ) → i < v → get_or fs i 0 ≤ high) (k : ℕ) (bp : List ℕ) where
     abbrev base : ℕ
     base = 4096 * k
 
@@ -86,7 +86,7 @@ module _ (ps fs : List ℕ) (page low high : ℕ) where
             ap (λ (x : Probe). else_look (looked_up k fs low high x) (best base)) (latest_other bp page r o)
             ∙ (ih ∙ sym (best_same (base + r) (frame_other page low high (entry ps fs (base + r)) (λ q. o (same r (omega arith) ∙ q)))))
         go ih (yes o) (yes d) =
-            let u = Visible_All (base + r) (omega arith) in
+            let u = visible_all (base + r) (omega arith) in
             let here = frame_here page low high (entry ps fs (base + r)) (sym (same r (omega arith)) ∙ o) d u in
             ap (λ (x : Probe). else_look (looked_up k fs low high x) (best base)) (latest_here bp page r o)
             ∙ (rw (le-leb _ _ d, le-leb _ _ u)
@@ -98,7 +98,7 @@ module _ (ps fs : List ℕ) (page low high : ℕ) where
             (best_below base (λ i b. below i (omega arith)) ∙ sym (best_below (suc (base + r)) below)))
 
   -- All blocks: each is probed as it was built, so together they give the greatest frame.
-  module _ (hs : List ℕ) (n : ℕ) (all_built : BlocksBuilt n ps hs) (v : ℕ) (most : v ≤ n) (rise : FramesRise v fs) (Visible_All : (i : ℕ) → i < v → get_or fs i 0 ≤ high) where
+  module _ (hs : List ℕ) (n : ℕ) (all_built : BlocksBuilt n ps hs) (v : ℕ) (most : v ≤ n) (rise : FramesRise v fs) (visible_all : (i : ℕ) → i < v → get_or fs i 0 ≤ high) where
     -- a probe of block k gives the page's latest visible entry there
     pub probe_built : (k : ℕ) → 4096 * k < v → probe_block k page v ps hs ≡ latest_below (block_pages_of k ps) page (min (v - 4096 * k) 4096)
     probe_built k l =
@@ -112,7 +112,7 @@ module _ (ps fs : List ℕ) (page low high : ℕ) where
         let e : min v (4096 * k) ≡ 4096 * k = omega arith in
         let s : 4096 * k + min (v - 4096 * k) 4096 ≡ min v (4096 * suc k) = omega arith in
         rw (probe_built k (omega arith), blocks_give k (omega arith), e)
-        (in_block v rise Visible_All k (block_pages_of k ps) (min (v - 4096 * k) 4096) (omega arith) (λ i b. block_page k ps i (omega arith)) ∙ ap best s)
+        (in_block v rise visible_all k (block_pages_of k ps) (min (v - 4096 * k) 4096) (omega arith) (λ i b. block_page k ps i (omega arith)) ∙ ap best s)
 
     pub find_gives : find_in (blocks_for v) v ps fs hs page low high ≡ best v
     find_gives = let e : min v (4096 * blocks_for v) ≡ v = omega arith in blocks_give (blocks_for v) (omega arith) ∙ ap best e

@@ -24,7 +24,7 @@ use Rattle.reader_slots.specs.Inner.{emptied_if, SlotsBecome}
 use Rattle.reader_probe.specs.Inner.{skipped_cell, live_by, live_db_file_by, live_frame, marks_with, is_db_file}
 use Rattle.reader_probe.specs.declared.live.LiveMarks.{LiveMarks}
 use Rattle.reader_floor.specs.Inner.{MarksOf, DbFileOf}
-use Rattle.reader_slots.proofs.Cells.{get_d_any, live_not_dead}
+use Rattle.reader_slots.proofs.Cells.{get_or_any, live_not_dead}
 use Rattle.reader_slots.proofs.Emptied.{emptied_slot, emptied, emptied_done, emptied_next}
 use Rattle.reader_slots.proofs.Lowest.{lowest_here, lowest_next, lowest_done}
 use Rattle.reader_probe.proofs.Looked.{looked_bound}
@@ -70,7 +70,7 @@ told_db_file false frame = refl
 -- whether slot i has a live reader of the database file, by the lists now and as they were
 module _ (mode : SharedWalOwnershipMode) (bytes f o l : List ℕ) (i : ℕ) (cell : i < length f) (r : LiveFrame) (e : Told mode bytes f o l i r) where
   db_now : is_db_file r ≡ live_db_file_by mode bytes f o l i
-  db_now = rw (e, told_db_file (live_by mode bytes f o l i) (get_or f i 0), get_d_any f i 0 unused cell)
+  db_now = rw (e, told_db_file (live_by mode bytes f o l i) (get_or f i 0), get_or_any f i 0 unused cell)
 
   db_before : (f₀ o₀ : List ℕ) → SameFrom i f o f₀ o₀ → is_db_file r ≡ live_db_file_by mode bytes f₀ o₀ l i
   db_before f₀ o₀ s = db_now ∙ rw (s.frames_same i unused (omega arith), s.owners_same i 0 (omega arith))

@@ -101,13 +101,13 @@ module _ (n : ℕ) (mode : SharedWalOwnershipMode) (mark slot owner : ℕ) (b f 
           refused_as j (λ z p r s q. by_last z p r q ∙ rw ((parts r s q).0, x) (sym y)) (λ z. some_number (eqb owner 0) (eqb mark unused) (sym y ∙ z))
 
       -- it has one
-      module _ (at : ℕ) (found : seen.place ≡ At at) (known : Bool) (Known_is : known ≡ (eqb seen.item.slot slot && eqb seen.item.owner.0 owner)) (frees : Bool) (frees_is : frees ≡ (known && eqb seen.item.holders 1)) (j : ℕ) (y : j ≡ unshare_refusal mode known frees owner mark (get_or o slot 0) (get_or l slot 0)) where
+      module _ (at : ℕ) (found : seen.place ≡ At at) (known : Bool) (known_is : known ≡ (eqb seen.item.slot slot && eqb seen.item.owner.0 owner)) (frees : Bool) (frees_is : frees ≡ (known && eqb seen.item.holders 1)) (j : ℕ) (y : j ≡ unshare_refusal mode known frees owner mark (get_or o slot 0) (get_or l slot 0)) where
         placed : (r : List SharedReadMark) → seen ≡ seen_of (min n (length r)) r mark → records ≡ length r → (record_of n r mark ≡ At at) × (get_or r at no_mark ≡ seen.item)
         placed r s q = let w = parts r s q in (w.0 ∙ found, ap (item_at r) (sym (w.0 ∙ found)) ∙ w.1)
 
         its_number : (z : Memory) (p : Process) (r : List SharedReadMark) → seen ≡ seen_of (min n (length r)) r mark → records ≡ length r → number z p r ≡ j
         unfolding unshare_refusal
-        its_number z p r s q = by_last z p r q ∙ rw ((placed r s q).0, (placed r s q).1, ← Known_is, ← frees_is) (sym y)
+        its_number z p r s q = by_last z p r q ∙ rw ((placed r s q).0, (placed r s q).1, ← known_is, ← frees_is) (sym y)
 
         pub unshare_refused : (j ≡ 0 → ⊥) → (plan : UnsharePlan) → Refused j plan → Means b f o l plan
         unshare_refused x = refused_as j its_number x

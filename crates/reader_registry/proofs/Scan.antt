@@ -176,14 +176,14 @@ or_false true = refl
 or_false false = refl
 
 -- past the end all records are empty
-get_d_past : (registry : List SharedReadMark) (i : ℕ) → length registry ≤ i → get_or registry i no_mark ≡ no_mark
-get_d_past [] i l = refl
-get_d_past (r ∷ registry) zero l = absurd (omega arith)
-get_d_past (r ∷ registry) (suc i) l = get_d_past registry i (omega arith)
+get_or_past : (registry : List SharedReadMark) (i : ℕ) → length registry ≤ i → get_or registry i no_mark ≡ no_mark
+get_or_past [] i l = refl
+get_or_past (r ∷ registry) zero l = absurd (omega arith)
+get_or_past (r ∷ registry) (suc i) l = get_or_past registry i (omega arith)
 
 past_end : (registry : List SharedReadMark) (slot n : ℕ) → length registry ≤ n → is_in_registry (suc n) registry slot ≡ is_in_registry n registry slot
 unfolding is_in_registry
-past_end registry slot n l = rw (get_d_past registry n l) (or_false (is_in_registry n registry slot))
+past_end registry slot n l = rw (get_or_past registry n l) (or_false (is_in_registry n registry slot))
 
 shared_all : (registry : List SharedReadMark) (slot n : ℕ) → is_in_registry (min n (length registry)) registry slot ≡ is_in_registry n registry slot
 shared_all registry slot zero = let e : min 0 (length registry) ≡ 0 = omega arith in rw e

@@ -7,10 +7,10 @@ use native.Mathlib.Omega.{arith}
 use lib.ListN.{length, get_or}
 
 -- a cell within a list is the same by any default
-pub get_d_any : (l : List ℕ) (i d e : ℕ) → i < length l → get_or l i d ≡ get_or l i e
-get_d_any [] i d e h = absurd (omega arith)
-get_d_any (x ∷ l) zero d e h = refl
-get_d_any (x ∷ l) (suc i) d e h = get_d_any l i d e (omega arith)
+pub get_or_any : (l : List ℕ) (i d e : ℕ) → i < length l → get_or l i d ≡ get_or l i e
+get_or_any [] i d e h = absurd (omega arith)
+get_or_any (x ∷ l) zero d e h = refl
+get_or_any (x ∷ l) (suc i) d e h = get_or_any l i d e (omega arith)
 
 -- one part of a conjunction is false
 pub and_false : (a : Bool) → (a && false) ≡ false

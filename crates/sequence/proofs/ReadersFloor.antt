@@ -25,7 +25,7 @@ use Rattle.reader_probe.specs.Live.{skipped, dead, live}
 use Rattle.reader_slots.proofs.Calls.{none_applies, enough_by}
 use Rattle.reader_floor.specs.Floor.{floor_of, floor_answer, probe_tests, reclaim_dead, min_active_reader_frame}
 use Rattle.reader_limit.specs.Limit.{limit_of, db_file_is_read, held_back, limit_at, copy_back_limit}
-use Rattle.reader_slots.proofs.Cells.{get_d_any, and_false}
+use Rattle.reader_slots.proofs.Cells.{get_or_any, and_false}
 use Rattle.reader_slots.proofs.Some.{some_false}
 use Rattle.reader_slots.proofs.Kept.{SlotSame, slot_same, emptied_other}
 use Rattle.reader_floor.proofs.Least.{AtMost, floor_at_most}
@@ -155,7 +155,7 @@ module _ (n : ℕ) (mode : SharedWalOwnershipMode) (bytes : List ℕ) (m : Memor
     bounded e h =
         let t = none_applies (probe_tests n mode bytes n m p) e in
         let r = enough_by n (length m.bitmap) (length m.reader_frames) (length m.reader_owners) (length p.local_readers) t.0 t.1.0 in
-        floor_at_most mode bytes p m n i x below (is_live h) (get_d_any m.reader_frames i 0 unused (omega arith) ∙ marked) (λ z. (omega arith))
+        floor_at_most mode bytes p m n i x below (is_live h) (get_or_any m.reader_frames i 0 unused (omega arith) ∙ marked) (λ z. (omega arith))
 
     pub floor_bound : accepted (after (min_active_reader_frame n mode bytes) m p).answer → Stays (after (min_active_reader_frame n mode bytes) m p).memory → (f : ℕ) × ((after (min_active_reader_frame n mode bytes) m p).answer ≡ frame_found f) × (f ≤ x)
     unfolding min_active_reader_frame AtMost
