@@ -42,7 +42,7 @@
  * Every call ends. A refused call answers the number of its refusal alone and changes nothing (docs/REFUSALS.md); 0
  * means accepted. wal_refusal_text says a number in words. A call that is refused, or that leaves every lent cell as it
  * is, makes no store: it may be made on memory that is mapped read-only. The comment of a function is its contract in
- * words; the contract itself is in the source of crates/c_header, crates/c_index, crates/c_readers and
+ * words; the contract itself is in the source of crates/c_header, crates/c_index, crates/c_readers_c and
  * crates/c_db_file_reader. */
 #ifndef WAL_COORDINATION_H
 #define WAL_COORDINATION_H
