@@ -4,8 +4,9 @@
 // to twice as long.
 #![tactic(auto)]
 
+ghost use Rattle.wal_types.specs.Mode.{mode_given};
 ghost use Rattle.reader_shared.specs.Shared.{register_db_file_reader};
-ghost use Rattle.c_numbers.specs.Mode.{mode_given, with_mode};
+ghost use Rattle.c_numbers.specs.Mode.{with_mode};
 ghost use Rattle.c_reader_replies.specs.ReaderReply.{reader_reply};
 ghost use Rattle.c_readers.specs.ReaderReplied.{RegistryReplied};
 

@@ -1,3 +1,3 @@
 -- The lock calls' replies.
-pub mod InnerKept
+pub mod InnerTold
 pub mod LockReply

@@ -1,17 +1,12 @@
 -- The lock calls' replies. Assumes nothing.
-use Rattle.std.specs.Prelude.{◌≡◌, Bool, ℕ}
+use Rattle.std.specs.Prelude.{◌≡◌, ℕ}
 use Rattle.wal_types.specs.declared.Header.{Header}
 use Rattle.wal_types.specs.Memory.{Memory, Process, with_header}
 use Rattle.wal_types.specs.Call.{Call, Done, after}
 use Rattle.header_locks.specs.declared.Lock.{Lock}
 use Rattle.header_locks.specs.Locks.{with_local_owner}
 use Rattle.c_header_replies.specs.declared.lock_reply.LockReply.{LockReply}
-use Rattle.c_header_replies.specs.declared.lock_reply.LockLeft.{LockLeft}
 use Rattle.c_numbers.specs.Reply.{refusal_number, answer_number}
-
--- the header h, whether it is another than before, and a reply of these numbers
-abbrev pub lock_left : Header → Bool → ℕ → ℕ → ℕ → LockLeft
-lock_left h changes n answer local = record { header = h; changes = changes; reply = record { refusal = n; answer = answer; local_owner = local } }
 
 -- The reply tells what the call answers, the header is as it leaves it, and nothing else changes.
 pub record Told (lock : Lock) (h : Header) (r : LockReply) (z : Memory) (p : Process) (d : Done) : Type 0 where

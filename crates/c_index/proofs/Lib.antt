@@ -1,3 +1,2 @@
 -- Laws of the C functions of the index calls.
 mod LookupReplies
-mod SearchReplies

@@ -16,7 +16,7 @@ ghost use Rattle.c_index.specs.SearchReplied.{FrameReplied, BetweenReplied};
 use c_index_replies::index_reply::IndexReply;
 use c_index_replies::lookup_reply::{FindReply, ListReply};
 use c_index_replies::search_reply::FrameReply;
-use c_index_replies::{index_reply, lookup_reply, search_reply};
+use c_index_replies::{index_reply, lookup_reply};
 use index_find::find;
 use index_scan::{between, nearest};
 use wal_types::Header;
@@ -39,11 +39,10 @@ pub extern "C" fn wal_record_frame(
     let done = index_reply::record_frame(
         capacity, max_blocks, *header, pages, frames, hash, page_id, frame_id, grow,
     );
-    let left = index_reply::left(*header, done);
-    if left.changes {
-        *header = left.header;
+    if let Some(cells) = done.cells {
+        *header = cells.put_in(*header);
     }
-    left.reply
+    done.reply
 }
 
 // Drops the entries from the end whose frame is above max_frame.
@@ -62,11 +61,10 @@ pub extern "C" fn wal_rollback_frames(
     let done = index_reply::rollback_frames(
         capacity, max_blocks, *header, pages, frames, hash, max_frame,
     );
-    let left = index_reply::left(*header, done);
-    if left.changes {
-        *header = left.header;
+    if let Some(cells) = done.cells {
+        *header = cells.put_in(*header);
     }
-    left.reply
+    done.reply
 }
 
 // Looks up the latest frame of a page, and counts the hash cells that it looks at. has_watermark: 0 if there is none, else watermark is it.
@@ -87,7 +85,7 @@ pub extern "C" fn wal_find_frame(
     ensures { FindReplied (find_frame capacity max_blocks page_id min_frame max_frame (watermark_given has_watermark watermark)) (find_looked capacity max_blocks page_id min_frame max_frame (watermark_given has_watermark watermark)) header pages.now frames.now hash.now result }
 {
     let frame_watermark = lookup_reply::watermark_of(has_watermark, watermark);
-    let answer = find::find_frame(
+    let looked = find::find_frame(
         capacity,
         max_blocks,
         header,
@@ -99,7 +97,7 @@ pub extern "C" fn wal_find_frame(
         max_frame,
         frame_watermark,
     );
-    lookup_reply::looked_up(answer)
+    FindReply::from(looked)
 }
 
 // Searches the entries for a frame of the page from min_frame to max_frame. Which one, where there are several, is undecided.
@@ -116,10 +114,9 @@ pub extern "C" fn wal_frame_between(
 ) -> FrameReply
     ensures { Undecided (frame_between capacity max_blocks page_id min_frame max_frame) (λ call. FrameReplied call header pages.now frames.now result) × BetweenReplied (entries_of header.frame_index_len pages.now frames.now) page_id min_frame max_frame result }
 {
-    let answer = between::frame_between(
+    FrameReply::from(between::frame_between(
         capacity, max_blocks, header, pages, frames, page_id, min_frame, max_frame,
-    );
-    search_reply::searched(answer)
+    ))
 }
 
 // Searches the entries for the page's nearest frame to a given one: of two that are as near, the lower.
@@ -135,10 +132,9 @@ pub extern "C" fn wal_nearest_frame(
 ) -> FrameReply
     ensures { FrameReplied (nearest_frame capacity max_blocks page_id to_frame) header pages.now frames.now result }
 {
-    let answer = nearest::nearest_frame(
+    FrameReply::from(nearest::nearest_frame(
         capacity, max_blocks, header, pages, frames, page_id, to_frame,
-    );
-    search_reply::searched(answer)
+    ))
 }
 
 // Lists each page's latest frame within the bounds, by rising page: pages to out_pages, frames to out_frames.
@@ -157,9 +153,9 @@ pub extern "C" fn wal_iter_latest_frames(
 ) -> ListReply
     ensures { ListReplied (iter_latest_frames capacity max_blocks min_frame max_frame (length out_pages.old) (length out_frames.old)) header pages.now frames.now hash.now result out_pages.old out_frames.old out_pages.new out_frames.new }
 {
-    let answer = list_latest::iter_latest_frames(
+    let listed = list_latest::iter_latest_frames(
         capacity, max_blocks, header, pages, frames, hash, min_frame, max_frame, out_pages,
         out_frames,
     );
-    lookup_reply::listed(answer)
+    ListReply::from(listed)
 }

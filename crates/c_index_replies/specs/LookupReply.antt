@@ -1,10 +1,8 @@
 -- The replies of a lookup and of a list, and a watermark read from numbers. Assumes nothing.
-use Rattle.std.specs.Prelude.{cond, ℕ, eqb}
+use Rattle.std.specs.Prelude.{Option, Some, None, Result, Ok, Err, cond, ℕ, eqb}
 use Rattle.wal_types.specs.Call.{Answer}
-use Rattle.index_find.specs.declared.find.Watermark.{Watermark}
-use Rattle.index_find.specs.declared.find.Watermark.TheVariants.{UpTo, NoWatermark}
-use Rattle.list_latest.specs.declared.ListAnswer.{ListAnswer}
-use Rattle.list_latest.specs.declared.ListAnswer.TheVariants.{Pairs, Refused}
+use Rattle.wal_types.specs.declared.refusal.Refusal.{Refusal}
+use Rattle.wal_types.specs.Refusal.{number}
 use Rattle.c_numbers.specs.Reply.{refusal_number, answer_number, found_number}
 use Rattle.c_index_replies.specs.declared.lookup_reply.FindReply.{FindReply}
 use Rattle.c_index_replies.specs.declared.lookup_reply.ListReply.{ListReply}
@@ -13,11 +11,11 @@ use Rattle.c_index_replies.specs.declared.lookup_reply.ListReply.{ListReply}
 abbrev pub find_reply : Answer → ℕ → FindReply
 find_reply a cells = record { refusal = refusal_number a; found = found_number a; frame = answer_number a; cells = cells }
 
--- The reply of each case of a list's answer.
-abbrev pub list_reply : ListAnswer → ListReply
-list_reply (Pairs n) = record { refusal = 0; count = n }
-list_reply (Refused n) = record { refusal = n; count = 0 }
+-- The reply of each case of a list's result.
+abbrev pub list_reply : Result ℕ Refusal → ListReply
+list_reply (Ok n) = record { refusal = 0; count = n }
+list_reply (Err r) = record { refusal = number r; count = 0 }
 
 -- The watermark of two numbers: none if the first is 0.
-unfoldable pub watermark_given : ℕ → ℕ → Watermark
-watermark_given has w = cond (eqb has 0) NoWatermark (UpTo w)
+unfoldable pub watermark_given : ℕ → ℕ → Option ℕ
+watermark_given has w = cond (eqb has 0) None (Some w)

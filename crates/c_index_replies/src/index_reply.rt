@@ -1,17 +1,15 @@
-// The calls that change the index, in numbers: the reply, and the header that the call leaves.
-ghost use Rattle.std.specs.Prelude.{◌≡◌, false, not, eqb};
+// The calls that change the index, in numbers: the reply, and the header's cells that are to be stored.
+ghost use Rattle.std.specs.Prelude.{◌≡◌, not, eqb};
 ghost use Rattle.index_end.specs.Cells.{with_cells};
-ghost use Rattle.index_record.specs.Record.{record_frame, record_answer};
-ghost use Rattle.index_record.specs.Rollback.{rollback_frames, rollback_answer};
-ghost use Rattle.c_index_replies.specs.IndexReply.{reply_of, index_left, IndexReplied};
-ghost use Rattle.c_index_replies.specs.InnerKept.{CellsKept};
+ghost use Rattle.index_record.specs.Record.{record_frame, record_answer, record_left};
+ghost use Rattle.index_record.specs.Rollback.{rollback_frames, rollback_answer, rollback_left};
+ghost use Rattle.c_index_replies.specs.IndexReply.{reply_of, header_left, IndexReplied};
 
-use index_end::cells;
 use index_end::cells::IndexCells;
-use index_record::record::RecordAnswer;
-use index_record::rollback::RollbackAnswer;
+use index_record::record::Recorded;
 use index_record::{record, rollback};
 use wal_types::Header;
+use wal_types::refusal::Refusal;
 
 // The answer of a record or a rollback in numbers. refusal: 0, or the number of the refusal. answer: 1 stored, 0 dropped;
 // for a rollback the kept length.
@@ -22,78 +20,80 @@ pub struct IndexReply {
     pub answer: u32,
 }
 
-// The reply, the index's cells of the header as the call leaves them, and whether one of them changes.
+// The reply, and the index's cells that are to be stored into the header, if one of them changes.
 #[derive(Clone, Copy)]
 pub struct IndexDone {
     pub reply: IndexReply,
-    pub cells: IndexCells,
-    pub changes: bool,
+    pub cells: Option<IndexCells>,
 }
 
-// The header that such a call leaves, whether it is another than before, and the reply.
-#[derive(Clone, Copy)]
-pub struct IndexLeft {
-    pub header: Header,
-    pub changes: bool,
-    pub reply: IndexReply,
-}
+impl From<Result<Recorded, Refusal>> for IndexReply {
+    ghost from_gives = { λ recorded result. result ≡ reply_of (record_answer recorded) };
 
-fn record_reply(answer: RecordAnswer) -> IndexReply
-    ensures { result ≡ reply_of (record_answer answer) }
-{
-    match answer {
-        RecordAnswer::Stored => IndexReply {
-            refusal: 0,
-            answer: 1,
-        },
-        RecordAnswer::Dropped => IndexReply {
-            refusal: 0,
-            answer: 0,
-        },
-        RecordAnswer::Refused(number) => IndexReply {
-            refusal: number,
-            answer: 0,
-        },
+    fn from(recorded: Result<Recorded, Refusal>) -> IndexReply {
+        match recorded {
+            Ok(Recorded::Stored(_)) => IndexReply {
+                refusal: 0,
+                answer: 1,
+            },
+            Ok(Recorded::Dropped(_)) => IndexReply {
+                refusal: 0,
+                answer: 0,
+            },
+            Err(refusal) => IndexReply {
+                refusal: u32::from(refusal),
+                answer: 0, // no record
+            },
+        }
     }
 }
 
-// Whether a record with this answer changes the header. One that is stored does, unless it puts frame 1 again into an index
-// of one entry: that is not asked, since a stored record writes its entry in any case.
-fn record_changes(header: Header, answer: RecordAnswer, cells: IndexCells) -> bool
-    ensures { result ≡ false → with_cells cells header ≡ header }
+impl From<Result<IndexCells, Refusal>> for IndexReply {
+    ghost from_gives = { λ rolled_back result. result ≡ reply_of (rollback_answer rolled_back) };
+
+    fn from(rolled_back: Result<IndexCells, Refusal>) -> IndexReply {
+        match rolled_back {
+            Ok(cells) => IndexReply {
+                refusal: 0,
+                answer: cells.frame_index_len,
+            },
+            Err(refused) => IndexReply {
+                refusal: u32::from(refused),
+                answer: 0, // nothing kept
+            },
+        }
+    }
+}
+
+// The cells, if one of them is another than in the header.
+fn changed(header: Header, cells: IndexCells) -> Option<IndexCells>
+    ensures { header_left result header ≡ with_cells cells header }
 {
-    let RecordAnswer::Stored = answer else {
-        return cells::cells_change(header, cells);
+    cells.change(header).then_some(cells)
+}
+
+// What a record changes. One that is stored changes the header, unless it puts frame 1 again into an index of one entry: that
+// is not asked, since a stored record writes its entry in any case.
+fn changed_by_record(header: Header, recorded: Result<Recorded, Refusal>) -> Option<IndexCells>
+    ensures { header_left result header ≡ with_cells (record_left header recorded) header }
+{
+    match recorded {
+        Ok(Recorded::Stored(cells)) => Some(cells),
+        Ok(Recorded::Dropped(cells)) => changed(header, cells),
+        Err(_) => None,
+    }
+}
+
+fn changed_by_rollback(
+    header: Header,
+    rolled_back: Result<IndexCells, Refusal>,
+) -> Option<IndexCells>
+    ensures { header_left result header ≡ with_cells (rollback_left header rolled_back) header }
+{
+    let Ok(cells) = rolled_back else {
+        return None;
     };
-    true
-}
-
-fn rollback_reply(answer: RollbackAnswer) -> IndexReply
-    ensures { result ≡ reply_of (rollback_answer answer) }
-{
-    match answer {
-        RollbackAnswer::Kept(len) => IndexReply {
-            refusal: 0,
-            answer: len,
-        },
-        RollbackAnswer::Refused(refused) => IndexReply {
-            refusal: refused,
-            answer: 0,
-        },
-    }
-}
-
-// Only the index's cells are set: the rest of the header stays in place when the C function stores it.
-pub fn left(header: Header, done: IndexDone) -> IndexLeft
-    ensures { result ≡ index_left done header }
-{
-    let cells = done.cells;
-    let reply = done.reply;
-    IndexLeft {
-        header: cells::with_index_cells(header, cells),
-        changes: done.changes,
-        reply: reply,
-    }
+    changed(header, cells)
 }
 
 pub fn record_frame(
@@ -107,7 +107,7 @@ pub fn record_frame(
     frame_id: u64,
     grow: u32,
 ) -> IndexDone
-    ensures { IndexReplied (record_frame capacity max_blocks page_id frame_id (not (eqb grow 0))) header pages.old frames.old hash.old result.reply (with_cells result.cells header) pages.new frames.new hash.new × CellsKept header result }
+    ensures { IndexReplied (record_frame capacity max_blocks page_id frame_id (not (eqb grow 0))) header pages.old frames.old hash.old result.reply (header_left result.cells header) pages.new frames.new hash.new }
 {
     let recorded = record::record_frame(
         capacity,
@@ -120,12 +120,9 @@ pub fn record_frame(
         frame_id,
         grow != 0,
     );
-    let answer = recorded.answer;
-    let cells = recorded.cells;
     IndexDone {
-        reply: record_reply(answer),
-        cells: cells,
-        changes: record_changes(header, answer, cells),
+        reply: IndexReply::from(recorded),
+        cells: changed_by_record(header, recorded),
     }
 }
 
@@ -138,16 +135,13 @@ pub fn rollback_frames(
     hash: &mut [u16],
     max_frame: u64,
 ) -> IndexDone
-    ensures { IndexReplied (rollback_frames capacity max_blocks max_frame) header pages.now frames.now hash.old result.reply (with_cells result.cells header) pages.now frames.now hash.new × CellsKept header result }
+    ensures { IndexReplied (rollback_frames capacity max_blocks max_frame) header pages.now frames.now hash.old result.reply (header_left result.cells header) pages.now frames.now hash.new }
 {
     let rolled_back = rollback::rollback_frames(
         capacity, max_blocks, header, pages, frames, hash, max_frame,
     );
-    let answer = rolled_back.answer;
-    let cells = rolled_back.cells;
     IndexDone {
-        reply: rollback_reply(answer),
-        cells: cells,
-        changes: cells::cells_change(header, cells),
+        reply: IndexReply::from(rolled_back),
+        cells: changed_by_rollback(header, rolled_back),
     }
 }

@@ -3,8 +3,8 @@ ghost use Rattle.std.specs.Prelude.{◌≡◌};
 ghost use Rattle.index_find.specs.Find.{found_answer, cells_told};
 ghost use Rattle.c_index_replies.specs.LookupReply.{find_reply, list_reply, watermark_given};
 
-use index_find::find::{FindAnswer, Watermark};
-use list_latest::ListAnswer;
+use index_find::find::Looked;
+use wal_types::refusal::Refusal;
 
 // The answer of a lookup in numbers. found: 1 if there is a frame. cells: how many hash cells were looked at.
 #[repr(C)]
@@ -24,51 +24,59 @@ pub struct ListReply {
     pub count: u64,
 }
 
-pub fn looked_up(answer: FindAnswer) -> FindReply
-    ensures { result ≡ find_reply (found_answer answer) (cells_told answer) }
-{
-    match answer {
-        FindAnswer::Frame(frame, cells) => FindReply {
-            refusal: 0,
-            found: 1,
-            frame: frame,
-            cells: cells,
-        },
-        FindAnswer::NoFrame(cells) => FindReply {
-            refusal: 0,
-            found: 0,
-            frame: 0,
-            cells: cells,
-        },
-        FindAnswer::Refused(number) => FindReply {
-            refusal: number,
-            found: 0,
-            frame: 0,
-            cells: 0,
-        },
+impl From<Result<Looked, Refusal>> for FindReply {
+    ghost from_gives = { λ looked result. result ≡ find_reply (found_answer looked) (cells_told looked) };
+
+    fn from(looked: Result<Looked, Refusal>) -> FindReply {
+        match looked {
+            Ok(
+                Looked {
+                    found: Some(frame),
+                    cells,
+                },
+            ) => FindReply {
+                refusal: 0,
+                found: 1,
+                frame: frame,
+                cells,
+            },
+            Ok(Looked { found: None, cells }) => FindReply {
+                refusal: 0,
+                found: 0,
+                frame: 0,
+                cells,
+            },
+            Err(refusal) => FindReply {
+                refusal: u32::from(refusal),
+                found: 0,
+                frame: 0,
+                cells: 0,
+            },
+        }
     }
 }
 
-pub fn listed(answer: ListAnswer) -> ListReply
-    ensures { result ≡ list_reply answer }
-{
-    match answer {
-        ListAnswer::Pairs(count) => ListReply {
-            refusal: 0,
-            count: count as u64,
-        },
-        ListAnswer::Refused(number) => ListReply {
-            refusal: number,
-            count: 0,
-        },
+impl From<Result<usize, Refusal>> for ListReply {
+    ghost from_gives = { λ listed result. result ≡ list_reply listed };
+
+    fn from(listed: Result<usize, Refusal>) -> ListReply {
+        match listed {
+            Ok(count) => ListReply {
+                refusal: 0,
+                count: count as u64,
+            },
+            Err(refusal) => ListReply {
+                refusal: u32::from(refusal),
+                count: 0,
+            },
+        }
     }
 }
 
-pub fn watermark_of(has_watermark: u32, watermark: u64) -> Watermark
+// The watermark, if there is one.
+#[tactic(auto, unfolding(crate::specs::LookupReply::watermark_given))]
+pub fn watermark_of(has_watermark: u32, watermark: u64) -> Option<u64>
     ensures { result ≡ watermark_given has_watermark watermark }
 {
-    if has_watermark == 0 {
-        return Watermark::NoWatermark;
-    }
-    Watermark::UpTo(watermark)
+    (has_watermark != 0).then_some(watermark)
 }

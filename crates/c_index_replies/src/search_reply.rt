@@ -3,7 +3,7 @@ ghost use Rattle.std.specs.Prelude.{◌≡◌};
 ghost use Rattle.index_scan.specs.Scan.{scan_answer};
 ghost use Rattle.c_index_replies.specs.InnerSearchReply.{frame_reply};
 
-use index_scan::ScanAnswer;
+use wal_types::refusal::Refusal;
 
 // found: 1 if there is a frame, and then frame is it; else both are 0.
 #[repr(C)]
@@ -14,24 +14,26 @@ pub struct FrameReply {
     pub frame: u64,
 }
 
-pub fn searched(answer: ScanAnswer) -> FrameReply
-    ensures { result ≡ frame_reply (scan_answer answer) }
-{
-    match answer {
-        ScanAnswer::Frame(frame) => FrameReply {
-            refusal: 0,
-            found: 1,
-            frame: frame,
-        },
-        ScanAnswer::NoFrame => FrameReply {
-            refusal: 0,
-            found: 0, // none
-            frame: 0,
-        },
-        ScanAnswer::Refused(number) => FrameReply {
-            refusal: number,
-            found: 0,
-            frame: 0,
-        },
+impl From<Result<Option<u64>, Refusal>> for FrameReply {
+    ghost from_gives = { λ searched result. result ≡ frame_reply (scan_answer searched) };
+
+    fn from(searched: Result<Option<u64>, Refusal>) -> FrameReply {
+        match searched {
+            Ok(Some(frame)) => FrameReply {
+                refusal: 0,
+                found: 1,
+                frame,
+            },
+            Ok(None) => FrameReply {
+                refusal: 0,
+                found: 0, // none
+                frame: 0,
+            },
+            Err(refusal) => FrameReply {
+                refusal: u32::from(refusal),
+                found: 0,
+                frame: 0,
+            },
+        }
     }
 }

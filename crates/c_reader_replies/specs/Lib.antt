@@ -1,3 +1,2 @@
 -- The reader calls' replies.
 pub mod ReaderReply
-pub mod InnerStep

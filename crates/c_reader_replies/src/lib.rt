@@ -2,24 +2,18 @@
 #![tactic(auto)]
 
 ghost use Rattle.std.specs.Prelude.{◌≡◌};
-ghost use Rattle.wal_types.specs.Call.{slot_taken};
+ghost use Rattle.wal_types.specs.Refusal.{refused_number};
+ghost use Rattle.wal_types.specs.Mode.{mode_given};
 ghost use Rattle.reader_register.specs.Register.{register_answer};
-ghost use Rattle.reader_moves.specs.Update.{update_answer, release_answer};
+ghost use Rattle.reader_moves.specs.Update.{update_answer};
 ghost use Rattle.reader_floor.specs.Floor.{min_frame_answer, db_file_answer};
 ghost use Rattle.reader_limit.specs.Limit.{limit_answer};
 ghost use Rattle.reader_shared.specs.Shared.{share_answer};
-ghost use Rattle.c_numbers.specs.Reply.{refusal_number};
-ghost use Rattle.c_numbers.specs.Mode.{mode_given};
-ghost use Rattle.c_reader_replies.specs.InnerStep.{shares_step, shares_unknown, unshares_step, unshares_unknown};
-ghost use Rattle.c_reader_replies.specs.ReaderReply.{settings_given, no_slot, reader_reply, no_floor, floor_reply, db_file_reply, limit_reply};
+ghost use Rattle.c_reader_replies.specs.ReaderReply.{settings_given, no_slot, held_answer, reader_reply, floor_reply, db_file_reply, limit_reply};
 
-use c_numbers::Mode;
-use reader_floor::floor::{DbFileReader, MinFrame};
-use reader_limit::limit::Limit;
-use reader_moves::update::{Release, Update};
-use reader_register::register::Register;
-use reader_shared::shared::{Share, SharePlan, UnsharePlan};
-use wal_types::{SharedOwnerRecord, SharedWalOwnershipMode, refusal};
+use reader_shared::shared::SharePlan;
+use wal_types::refusal::Refusal;
+use wal_types::{SharedOwnerRecord, SharedWalOwnershipMode};
 
 // The answer of a registration or a move in numbers. refusal: 0, or the number of the refusal. taken: 1 if a slot is held,
 // and then slot, owner and mark are its number, its owner and its mark; else 0, and they are 0.
@@ -58,23 +52,6 @@ pub struct LimitReply {
     pub limit: u64,
 }
 
-// What a shared registration does to the registry, as in its plan: the places of the record that it retains and of the one
-// that it publishes for the slot, each past the end for none. And its reply.
-#[derive(Clone, Copy)]
-pub struct ShareStep {
-    pub retained: usize,
-    pub published: usize,
-    pub slot: u32,
-    pub reply: ReaderReply,
-}
-
-// The same of a shared release: the place of the record that it releases. refusal is 0 or the number of the refusal.
-#[derive(Clone, Copy)]
-pub struct UnshareStep {
-    pub released: usize,
-    pub refusal: u32,
-}
-
 // The number of slots and the lock mode.
 #[derive(Clone, Copy)]
 pub struct Settings {
@@ -82,29 +59,36 @@ pub struct Settings {
     pub mode: SharedWalOwnershipMode,
 }
 
-// The settings of two numbers. Where mode is no lock mode's number there are 0 slots, and every call is refused with 1.
+// The settings of two numbers. Where mode is no lock mode's number there are 0 slots, and every call is refused with 1. (A Result
+// would have each C function end in two ways: so the call itself refuses, by the test that it makes in any case.)
 pub fn settings_of(n: usize, mode: u32) -> Settings
     ensures { result ≡ settings_given (mode_given mode) n }
 {
-    let Mode::Given(given) = c_numbers::mode_of(mode) else {
-        return Settings {
+    match SharedWalOwnershipMode::try_from(mode) {
+        Ok(given) => Settings { n, mode: given },
+        Err(_) => Settings {
             n: 0,
             mode: SharedWalOwnershipMode::LinuxOfd,
-        };
-    };
-    Settings { n: n, mode: given }
+        },
+    }
 }
 
-fn with_slot(slot: u64, owner: SharedOwnerRecord, mark: u64) -> ReaderReply
-    ensures { result ≡ reader_reply (slot_taken slot owner.0 mark) }
+// 0, or the number of the refusal.
+pub fn refusal_told<T: Copy>(answer: Result<T, Refusal>) -> u32
+    ensures { result ≡ refused_number answer }
 {
-    ReaderReply {
-        refusal: 0,
-        taken: 1,
-        slot: slot,
-        owner: owner.0,
-        mark: mark,
+    match answer {
+        Ok(_) => 0,
+        Err(refusal) => u32::from(refusal),
     }
+}
+
+// A slot that is held, with its owner and its mark.
+#[derive(Clone, Copy)]
+struct HeldSlot {
+    slot: u64,
+    owner: SharedOwnerRecord,
+    mark: u64,
 }
 
 // refusal is 0 where there is none.
@@ -112,7 +96,7 @@ fn without_slot(refusal: u32) -> ReaderReply
     ensures { result ≡ no_slot refusal }
 {
     ReaderReply {
-        refusal: refusal,
+        refusal,
         taken: 0,
         slot: 0,
         owner: 0,
@@ -120,154 +104,92 @@ fn without_slot(refusal: u32) -> ReaderReply
     }
 }
 
-pub fn register_told(answer: Register, owner: SharedOwnerRecord, mark: u64) -> ReaderReply
+fn held_told(answer: Result<Option<HeldSlot>, Refusal>) -> ReaderReply
+    ensures { result ≡ reader_reply (held_answer answer) }
+{
+    match answer {
+        Ok(Some(held)) => ReaderReply {
+            refusal: 0,
+            taken: 1,
+            slot: held.slot,
+            owner: held.owner.0,
+            mark: held.mark,
+        },
+        Ok(None) => without_slot(0),
+        Err(refusal) => without_slot(u32::from(refusal)),
+    }
+}
+
+pub fn register_told(
+    answer: Result<Option<usize>, Refusal>,
+    owner: SharedOwnerRecord,
+    mark: u64,
+) -> ReaderReply
     ensures { result ≡ reader_reply (register_answer owner.0 mark answer) }
 {
-    let Register::Taken(slot) = answer else {
-        let Register::Refused(number) = answer else {
-            return without_slot(0);
-        };
-        return without_slot(number);
+    let slot_held = |slot| HeldSlot {
+        slot: slot as u64,
+        owner,
+        mark,
     };
-    with_slot(slot as u64, owner, mark)
+    held_told(answer.map(|found| found.map(slot_held)))
 }
 
-pub fn move_told(answer: Update, slot: usize, owner: SharedOwnerRecord, mark: u64) -> ReaderReply
+pub fn move_told(
+    answer: Result<(), Refusal>,
+    slot: usize,
+    owner: SharedOwnerRecord,
+    mark: u64,
+) -> ReaderReply
     ensures { result ≡ reader_reply (update_answer slot owner.0 mark answer) }
 {
-    match answer {
-        Update::Moved => with_slot(slot as u64, owner, mark),
-        Update::Refused(number) => without_slot(number),
-    }
+    register_told(answer.map(|()| Some(slot)), owner, mark)
 }
 
-pub fn share_told(answer: Share) -> ReaderReply
-    ensures { result ≡ reader_reply (share_answer answer) }
-{
-    let Share::Taken(slot, first, shared) = answer else {
-        let Share::Refused(refusal) = answer else {
-            return without_slot(0);
+impl From<Result<Option<SharePlan>, Refusal>> for ReaderReply {
+    ghost from_gives = { λ answer reply. reply ≡ reader_reply (share_answer answer) };
+
+    fn from(answer: Result<Option<SharePlan>, Refusal>) -> ReaderReply {
+        let plan_held = |plan: SharePlan| HeldSlot {
+            slot: u64::from(plan.taken.slot),
+            owner: plan.taken.owner,
+            mark: plan.taken.mark,
         };
-        return without_slot(refusal);
-    };
-    with_slot(slot as u64, first, shared)
-}
-
-// 0, or the number of the refusal.
-pub fn release_told(answer: Release) -> u32
-    ensures { result ≡ refusal_number (release_answer answer) }
-{
-    match answer {
-        Release::Released => 0,
-        Release::Refused(number) => number,
+        held_told(answer.map(|plan| plan.map(plan_held)))
     }
 }
 
-// A shared registration's plan with its answer in numbers.
-pub fn share_step(plan: SharePlan) -> ShareStep
-    ensures { result ≡ shares_step plan }
-{
-    let answer = plan.answer;
-    let reply = share_told(answer);
-    ShareStep {
-        retained: plan.retained,
-        published: plan.published,
-        slot: plan.slot,
-        reply: reply,
+impl From<Result<Option<u64>, Refusal>> for FloorReply {
+    ghost from_gives = { λ answer reply. reply ≡ floor_reply (min_frame_answer answer) };
+
+    fn from(answer: Result<Option<u64>, Refusal>) -> FloorReply {
+        let floor = answer.unwrap_or(None);
+        FloorReply {
+            refusal: refusal_told(answer),
+            found: u32::from(floor.is_some()),
+            mark: floor.unwrap_or(0),
+        }
     }
 }
 
-// A shared registration by an unknown lock mode changes no record.
-pub fn share_unknown(records: usize) -> ShareStep
-    ensures { result ≡ shares_unknown records }
-{
-    let reply = without_slot(refusal::SETTINGS);
-    ShareStep {
-        retained: records,
-        published: records,
-        slot: 0,
-        reply: reply,
+impl From<Result<bool, Refusal>> for DbFileReply {
+    ghost from_gives = { λ answer reply. reply ≡ db_file_reply (db_file_answer answer) };
+
+    fn from(answer: Result<bool, Refusal>) -> DbFileReply {
+        DbFileReply {
+            refusal: refusal_told(answer),
+            active: u32::from(answer.unwrap_or(false)),
+        }
     }
 }
 
-// The same of a shared release.
-pub fn unshare_step(plan: UnsharePlan) -> UnshareStep
-    ensures { result ≡ unshares_step plan }
-{
-    let answer = plan.answer;
-    let told = release_told(answer);
-    UnshareStep {
-        released: plan.released,
-        refusal: told,
-    }
-}
+impl From<Result<u64, Refusal>> for LimitReply {
+    ghost from_gives = { λ answer reply. reply ≡ limit_reply (limit_answer answer) };
 
-pub fn unshare_unknown(records: usize) -> UnshareStep
-    ensures { result ≡ unshares_unknown records }
-{
-    UnshareStep {
-        released: records,
-        refusal: refusal::SETTINGS,
-    }
-}
-
-// refusal is 0 where there is none.
-fn without_floor(refusal: u32) -> FloorReply
-    ensures { result ≡ no_floor refusal }
-{
-    FloorReply {
-        refusal: refusal,
-        found: 0,
-        mark: 0,
-    }
-}
-
-pub fn floor_told(answer: MinFrame) -> FloorReply
-    ensures { result ≡ floor_reply (min_frame_answer answer) }
-{
-    let MinFrame::Floor(mark) = answer else {
-        let MinFrame::Refused(number) = answer else {
-            return without_floor(0);
-        };
-        return without_floor(number);
-    };
-    FloorReply {
-        refusal: 0,
-        found: 1,
-        mark: mark,
-    }
-}
-
-pub fn db_file_told(answer: DbFileReader) -> DbFileReply
-    ensures { result ≡ db_file_reply (db_file_answer answer) }
-{
-    match answer {
-        DbFileReader::Active => DbFileReply {
-            refusal: 0,
-            active: 1,
-        },
-        DbFileReader::NoneActive => DbFileReply {
-            refusal: 0,
-            active: 0,
-        },
-        DbFileReader::Refused(number) => DbFileReply {
-            refusal: number,
-            active: 0,
-        },
-    }
-}
-
-pub fn limit_told(answer: Limit) -> LimitReply
-    ensures { result ≡ limit_reply (limit_answer answer) }
-{
-    match answer {
-        Limit::Upto(frame) => LimitReply {
-            refusal: 0,
-            limit: frame,
-        },
-        Limit::Refused(refused) => LimitReply {
-            refusal: refused,
-            limit: 0,
-        },
+    fn from(answer: Result<u64, Refusal>) -> LimitReply {
+        LimitReply {
+            refusal: refusal_told(answer),
+            limit: answer.unwrap_or(0),
+        }
     }
 }

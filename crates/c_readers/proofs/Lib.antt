@@ -1,2 +1,2 @@
 -- Laws of the C functions of the reader calls.
-mod ReaderReplies
+pub mod ReaderReplies

@@ -1,3 +1,2 @@
 -- What the C functions of the reader calls promise.
 pub mod ReaderReplied
-pub mod InnerSteps

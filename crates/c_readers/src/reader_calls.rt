@@ -1,19 +1,24 @@
 // The calls on reader slots and shared marks.
+ghost use Rattle.std.specs.Prelude.{◌≡◌};
 ghost use Rattle.reader_register.specs.Register.{register_reader};
 ghost use Rattle.reader_moves.specs.Update.{update_reader, unregister_reader};
 ghost use Rattle.reader_floor.specs.Floor.{min_active_reader_frame, has_active_db_file_reader};
 ghost use Rattle.reader_limit.specs.Limit.{copy_back_limit};
 ghost use Rattle.reader_shared.specs.Shared.{register_reader_for_snapshot, unregister_reader_for_snapshot};
+ghost use Rattle.reader_shared.specs.Inner.{share_change};
 ghost use Rattle.c_numbers.specs.Reply.{refusal_number};
-ghost use Rattle.c_numbers.specs.Mode.{mode_given, with_mode};
+ghost use Rattle.wal_types.specs.Mode.{mode_given};
+ghost use Rattle.c_numbers.specs.Mode.{with_mode};
 ghost use Rattle.c_reader_replies.specs.ReaderReply.{reader_reply, floor_reply, db_file_reply, limit_reply};
 ghost use Rattle.c_readers.specs.ReaderReplied.{SlotsReplied, MoveReplied, RegistryReplied, LimitReplied};
 
-use crate::registry_steps;
 use c_reader_replies::{DbFileReply, FloorReply, LimitReply, ReaderReply};
 use reader_floor::floor;
 use reader_limit::limit;
+use reader_moves::update;
 use reader_register::register;
+use reader_shared::shared::{RecordChange, SharePlan};
+use wal_types::refusal::Refusal;
 use wal_types::{SharedOwnerRecord, SharedReadMark};
 
 // Takes a reader slot at a mark. card is the byte locks' answers, one for each slot: 0 busy, 1 granted, 2 error.
@@ -32,10 +37,9 @@ pub fn wal_register_reader(
 {
     let offered = SharedOwnerRecord(owner);
     let given = c_reader_replies::settings_of(n, mode);
-    let lock_mode = given.mode;
     let answer = register::register_reader(
         given.n,
-        lock_mode,
+        given.mode,
         bitmap,
         reader_frames,
         reader_owners,
@@ -60,9 +64,8 @@ pub fn wal_update_reader(
     ensures { MoveReplied reader_reply (update_reader n slot owner mark) reader_frames.old reader_owners.now registry.now result reader_frames.new }
 {
     let offered = SharedOwnerRecord(owner);
-    let records = registry.len();
     let in_registry = reader_registry::slot_is_shared(registry, n, slot);
-    registry_steps::update_reader(
+    let answer = update::update_core(
         n,
         reader_frames,
         reader_owners,
@@ -70,8 +73,9 @@ pub fn wal_update_reader(
         offered,
         mark,
         in_registry,
-        records,
-    )
+        registry.len(),
+    );
+    c_reader_replies::move_told(answer, slot, offered, mark)
 }
 
 // Releases a reader's slot. Answers 0, or the number of the refusal.
@@ -89,11 +93,11 @@ pub fn wal_unregister_reader(
     ensures { RegistryReplied refusal_number (with_mode (mode_given mode) (λ given. unregister_reader n given slot owner)) bitmap.old reader_frames.old reader_owners.old local_readers.old registry.now result bitmap.new reader_frames.new reader_owners.new local_readers.new registry.now }
 {
     let offered = SharedOwnerRecord(owner);
-    let records = registry.len();
-    let in_registry = reader_registry::slot_is_shared(registry, n, slot);
-    registry_steps::unregister_reader(
-        n,
-        mode,
+    let given = c_reader_replies::settings_of(n, mode);
+    let in_registry = reader_registry::slot_is_shared(registry, given.n, slot);
+    let answer = update::unregister_core(
+        given.n,
+        given.mode,
         bitmap,
         reader_frames,
         reader_owners,
@@ -101,8 +105,29 @@ pub fn wal_unregister_reader(
         slot,
         offered,
         in_registry,
-        records,
-    )
+        registry.len(),
+    );
+    c_reader_replies::refusal_told(answer)
+}
+
+// Makes the change of the registry that a shared registration plans, if it takes a slot.
+fn change_registry(registry: &mut [SharedReadMark], answer: Result<Option<SharePlan>, Refusal>)
+    ensures { registry.new ≡ share_change answer registry.old }
+{
+    let Ok(Some(plan)) = answer else {
+        return;
+    };
+    let taken = plan.taken;
+    match plan.change {
+        RecordChange::Retained(at) => reader_registry::retain_shared_snapshot_reader(registry, at),
+        RecordChange::Published(at) => reader_registry::publish_shared_snapshot_reader(
+            registry,
+            at,
+            taken.mark,
+            taken.slot,
+            taken.owner,
+        ),
+    }
 }
 
 // Takes a reader slot at a mark, or joins the connections of this process that share the mark. card is as in
@@ -122,30 +147,23 @@ pub fn wal_register_reader_for_snapshot(
     ensures { RegistryReplied reader_reply (with_mode (mode_given mode) (λ given. register_reader_for_snapshot n given owner mark card.now)) bitmap.old reader_frames.old reader_owners.old local_readers.old registry.old result bitmap.new reader_frames.new reader_owners.new local_readers.new registry.new }
 {
     let offered = SharedOwnerRecord(owner);
-    let records = registry.len();
-    let seen = reader_registry::look_through(registry, n, mark);
-    let step = registry_steps::register_reader_for_snapshot(
-        n,
-        mode,
+    let given = c_reader_replies::settings_of(n, mode);
+    let seen = reader_registry::look_through(registry, given.n, mark);
+    let answer = reader_plans::share_plan(
+        given.n,
+        given.mode,
         bitmap,
         reader_frames,
         reader_owners,
         local_readers,
-        records,
+        registry.len(),
         seen,
         card,
         offered,
         mark,
     );
-    reader_registry::retain_shared_snapshot_reader(registry, step.retained);
-    reader_registry::publish_shared_snapshot_reader(
-        registry,
-        step.published,
-        mark,
-        step.slot,
-        offered,
-    );
-    step.reply
+    change_registry(registry, answer);
+    ReaderReply::from(answer)
 }
 
 // Releases a shared mark: a holder less, and the last one empties the slot. Answers 0, or the number of the refusal.
@@ -164,23 +182,25 @@ pub fn wal_unregister_reader_for_snapshot(
     ensures { RegistryReplied refusal_number (with_mode (mode_given mode) (λ given. unregister_reader_for_snapshot n given mark slot owner)) bitmap.old reader_frames.old reader_owners.old local_readers.old registry.old result bitmap.new reader_frames.new reader_owners.new local_readers.new registry.new }
 {
     let offered = SharedOwnerRecord(owner);
-    let records = registry.len();
-    let seen = reader_registry::look_through(registry, n, mark);
-    let step = registry_steps::unregister_reader_for_snapshot(
-        n,
-        mode,
+    let given = c_reader_replies::settings_of(n, mode);
+    let seen = reader_registry::look_through(registry, given.n, mark);
+    let answer = reader_plans::unshare_plan(
+        given.n,
+        given.mode,
         bitmap,
         reader_frames,
         reader_owners,
         local_readers,
-        records,
+        registry.len(),
         seen,
         mark,
         slot,
         offered,
     );
-    reader_registry::release_shared_snapshot_reader(registry, step.released);
-    step.refusal
+    if let Ok(place) = answer {
+        reader_registry::release_shared_snapshot_reader(registry, place);
+    }
+    c_reader_replies::refusal_told(answer)
 }
 
 // The least mark above 0 of all live readers. card is as in wal_register_reader.
@@ -196,17 +216,16 @@ pub fn wal_min_active_reader_frame(
     ensures { SlotsReplied floor_reply (with_mode (mode_given mode) (λ given. min_active_reader_frame n given card.now)) bitmap.old reader_frames.old reader_owners.old local_readers.now result bitmap.new reader_frames.new reader_owners.new local_readers.now }
 {
     let given = c_reader_replies::settings_of(n, mode);
-    let lock_mode = given.mode;
     let answer = floor::min_active_reader_frame(
         given.n,
-        lock_mode,
+        given.mode,
         bitmap,
         reader_frames,
         reader_owners,
         local_readers,
         card,
     );
-    c_reader_replies::floor_told(answer)
+    FloorReply::from(answer)
 }
 
 // Whether a reader in any process reads only the database file. card is as in wal_register_reader.
@@ -222,17 +241,16 @@ pub fn wal_has_active_db_file_reader(
     ensures { SlotsReplied db_file_reply (with_mode (mode_given mode) (λ given. has_active_db_file_reader n given card.now)) bitmap.old reader_frames.old reader_owners.old local_readers.now result bitmap.new reader_frames.new reader_owners.new local_readers.now }
 {
     let given = c_reader_replies::settings_of(n, mode);
-    let lock_mode = given.mode;
     let answer = floor::has_active_db_file_reader(
         given.n,
-        lock_mode,
+        given.mode,
         bitmap,
         reader_frames,
         reader_owners,
         local_readers,
         card,
     );
-    c_reader_replies::db_file_told(answer)
+    DbFileReply::from(answer)
 }
 
 // The frame up to which a checkpoint may copy frames back. max_frame is the published frame, nbackfills the number of
@@ -251,10 +269,9 @@ pub fn wal_copy_back_limit(
     ensures { LimitReplied limit_reply (with_mode (mode_given mode) (λ given. copy_back_limit n given card.now)) max_frame nbackfills bitmap.old reader_frames.old reader_owners.old local_readers.now result bitmap.new reader_frames.new reader_owners.new }
 {
     let given = c_reader_replies::settings_of(n, mode);
-    let lock_mode = given.mode;
     let answer = limit::copy_back_limit(
         given.n,
-        lock_mode,
+        given.mode,
         max_frame,
         nbackfills,
         bitmap,
@@ -263,5 +280,5 @@ pub fn wal_copy_back_limit(
         local_readers,
         card,
     );
-    c_reader_replies::limit_told(answer)
+    LimitReply::from(answer)
 }

@@ -2,13 +2,14 @@
 // exported or called by other crates, not both, and wal_register_db_file_reader calls one of these.
 #![tactic(auto)]
 
+ghost use Rattle.wal_types.specs.Mode.{mode_given};
 ghost use Rattle.reader_register.specs.Register.{register_reader};
 ghost use Rattle.reader_moves.specs.Update.{update_reader, unregister_reader};
 ghost use Rattle.reader_floor.specs.Floor.{min_active_reader_frame, has_active_db_file_reader};
 ghost use Rattle.reader_limit.specs.Limit.{copy_back_limit};
 ghost use Rattle.reader_shared.specs.Shared.{register_reader_for_snapshot, unregister_reader_for_snapshot};
 ghost use Rattle.c_numbers.specs.Reply.{refusal_number};
-ghost use Rattle.c_numbers.specs.Mode.{mode_given, with_mode};
+ghost use Rattle.c_numbers.specs.Mode.{with_mode};
 ghost use Rattle.c_reader_replies.specs.ReaderReply.{reader_reply, floor_reply, db_file_reply, limit_reply};
 ghost use Rattle.c_readers.specs.ReaderReplied.{SlotsReplied, MoveReplied, RegistryReplied, LimitReplied};
 

@@ -1,3 +1,2 @@
 -- The two locks.
-pub mod InnerChange
 pub mod Locks

@@ -1,15 +1,14 @@
-// The writer and the checkpoint lock. A call is given this process's own cell for the lock and, to acquire, the answer of
-// the byte lock: 0 busy, 1 granted, 2 error. It answers what goes into the lock's two cells: the shared one, which is the
-// header's, and the own one.
+// The writer and the checkpoint lock. A call is lent the header, which has the lock's shared cell, and this process's own
+// cell for the lock; to acquire, it is given the answer of the byte lock: 0 busy, 1 granted, 2 error.
 #![tactic(auto)]
 
-ghost use Rattle.std.specs.Prelude.{◌≡◌, false, not, ◌&&◌, eqb};
+ghost use Rattle.std.specs.Prelude.{◌≡◌, not, ◌&&◌, eqb};
 ghost use Rattle.wal_types.specs.Memory.{header_with};
 ghost use Rattle.wal_types.specs.Settings.{is_fcntl};
-ghost use Rattle.header_locks.specs.InnerChange.{shared_owner_of};
-ghost use Rattle.header_locks.specs.Locks.{owner_cell, try_acquire, release, AcquireCall, ReleaseCall};
+ghost use Rattle.header_locks.specs.Locks.{owner_cell, try_acquire, acquire_answer, release, release_answer, LockCall};
 
-use wal_types::{Header, SharedOwnerRecord, SharedWalOwnershipMode, refusal};
+use wal_types::refusal::Refusal;
+use wal_types::{Header, SharedOwnerRecord, SharedWalOwnershipMode, UNOWNED_LOCK};
 
 #[derive(Clone, Copy)]
 pub enum Lock {
@@ -17,65 +16,50 @@ pub enum Lock {
     Checkpoint,
 }
 
-// Taken: the owner goes into both cells. Busy and Refused change nothing.
-#[derive(Clone, Copy)]
-pub enum LockAcquire {
-    Taken(SharedOwnerRecord),
-    Busy,
-    Refused(u32),
-}
-
-// Released: both cells become 0. Refused changes nothing.
-#[derive(Clone, Copy)]
-pub enum LockRelease {
-    Released,
-    Refused(u32),
-}
-
-// The header with an owner in the lock's shared cell.
-pub fn with_owner(lock: Lock, header: Header, owner: SharedOwnerRecord) -> Header
-    ensures { result ≡ header_with (owner_cell lock) owner.0 header }
+// An owner goes into the lock's shared cell. Where it is there already nothing is stored, so that such a call can be made on
+// memory that is mapped read-only.
+fn set_owner(lock: Lock, header: &mut Header, owner: SharedOwnerRecord)
+    ensures { header.new ≡ header_with (owner_cell lock) owner.0 header.old }
 {
-    let mut next = header;
     match lock {
         Lock::Writer => {
-            next.writer_owner = owner.0;
-            next
+            if owner.0 != header.writer_owner {
+                header.writer_owner = owner.0;
+            }
         }
         Lock::Checkpoint => {
-            next.checkpoint_owner = owner.0;
-            next
+            if owner.0 != header.checkpoint_owner {
+                header.checkpoint_owner = owner.0;
+            }
         }
     }
 }
 
-// Whether that header is another one. Where it is not, there is nothing to store.
-pub fn owner_changes(lock: Lock, header: Header, owner: SharedOwnerRecord) -> bool
-    ensures { (result ≡ not (eqb owner.0 (shared_owner_of lock header))) × (result ≡ false → header_with (owner_cell lock) owner.0 header ≡ header) }
+// Attempts to take a lock: the owner goes into both cells, or the lock is busy.
+pub fn try_acquire(
+    lock: Lock,
+    header: &mut Header,
+    local_owner: &mut SharedOwnerRecord,
+    owner: SharedOwnerRecord,
+    card: u8,
+) -> Result<bool, Refusal>
+    ensures { LockCall lock (try_acquire lock owner.0 card) header.old local_owner.old.0 (acquire_answer result) header.new local_owner.new.0 }
 {
-    match lock {
-        Lock::Writer => owner.0 != header.writer_owner,
-        Lock::Checkpoint => owner.0 != header.checkpoint_owner,
-    }
-}
-
-// The answer is the same for both locks.
-fn acquire_lock(local_owner: SharedOwnerRecord, owner: SharedOwnerRecord, card: u8) -> LockAcquire
-    ensures { (lock : Lock) → AcquireCall lock (try_acquire lock owner.0 card) local_owner.0 result }
-{
-    if owner.0 == 0 {
-        return LockAcquire::Refused(refusal::NO_OWNER);
+    if owner.0 == UNOWNED_LOCK {
+        return Err(Refusal::NoOwner);
     }
     if 2 < card {
-        return LockAcquire::Refused(refusal::CARD);
+        return Err(Refusal::Card);
     }
-    if local_owner.0 != 0 {
-        return LockAcquire::Busy;
+    if local_owner.0 != UNOWNED_LOCK {
+        return Ok(false);
     }
     if card != 1 {
-        return LockAcquire::Busy;
+        return Ok(false);
     }
-    LockAcquire::Taken(owner)
+    set_owner(lock, header, owner);
+    *local_owner = owner;
+    Ok(true)
 }
 
 // Whether a release is by another than the local owner. LinuxOfd does not compare owners.
@@ -86,71 +70,30 @@ fn by_other_owner(
 ) -> bool
     ensures { result ≡ (is_fcntl mode && not (eqb owner.0 local_owner.0)) }
 {
-    match mode {
-        SharedWalOwnershipMode::LinuxOfd => false,
-        SharedWalOwnershipMode::ProcessScopedFcntl => owner.0 != local_owner.0,
-    }
+    mode.is_fcntl() && owner != local_owner
 }
 
-fn release_lock(
+// Releases a lock: both cells become 0.
+pub fn release(
+    lock: Lock,
     mode: SharedWalOwnershipMode,
-    local_owner: SharedOwnerRecord,
+    header: &mut Header,
+    local_owner: &mut SharedOwnerRecord,
     owner: SharedOwnerRecord,
-) -> LockRelease
-    ensures { (lock : Lock) → ReleaseCall lock (release lock mode owner.0) local_owner.0 result }
+) -> Result<(), Refusal>
+    ensures { LockCall lock (release lock mode owner.0) header.old local_owner.old.0 (release_answer result) header.new local_owner.new.0 }
 {
-    if local_owner.0 == 0 {
-        return LockRelease::Refused(refusal::NOT_HELD);
+    if local_owner.0 == UNOWNED_LOCK {
+        return Err(Refusal::NotHeld);
     }
-    if by_other_owner(mode, local_owner, owner) {
-        return LockRelease::Refused(refusal::OTHER_OWNER);
+    if by_other_owner(mode, *local_owner, owner) {
+        return Err(Refusal::OtherOwner);
     }
-    if owner.0 == 0 {
-        return LockRelease::Refused(refusal::NO_OWNER);
+    if owner.0 == UNOWNED_LOCK {
+        return Err(Refusal::NoOwner);
     }
-    LockRelease::Released
-}
-
-// Attempts to take the writer lock.
-pub fn try_acquire_writer(
-    local_owner: SharedOwnerRecord,
-    owner: SharedOwnerRecord,
-    card: u8,
-) -> LockAcquire
-    ensures { AcquireCall Lock.Writer (try_acquire Lock.Writer owner.0 card) local_owner.0 result }
-{
-    acquire_lock(local_owner, owner, card)
-}
-
-// Releases the writer lock.
-pub fn release_writer(
-    mode: SharedWalOwnershipMode,
-    local_owner: SharedOwnerRecord,
-    owner: SharedOwnerRecord,
-) -> LockRelease
-    ensures { ReleaseCall Lock.Writer (release Lock.Writer mode owner.0) local_owner.0 result }
-{
-    release_lock(mode, local_owner, owner)
-}
-
-// Attempts to take the checkpoint lock.
-pub fn try_acquire_checkpoint(
-    local_owner: SharedOwnerRecord,
-    owner: SharedOwnerRecord,
-    card: u8,
-) -> LockAcquire
-    ensures { AcquireCall Lock.Checkpoint (try_acquire Lock.Checkpoint owner.0 card) local_owner.0 result }
-{
-    acquire_lock(local_owner, owner, card)
-}
-
-// Releases the checkpoint lock.
-pub fn release_checkpoint(
-    mode: SharedWalOwnershipMode,
-    local_owner: SharedOwnerRecord,
-    owner: SharedOwnerRecord,
-) -> LockRelease
-    ensures { ReleaseCall Lock.Checkpoint (release Lock.Checkpoint mode owner.0) local_owner.0 result }
-{
-    release_lock(mode, local_owner, owner)
+    let nobody = SharedOwnerRecord(UNOWNED_LOCK);
+    set_owner(lock, header, nobody);
+    *local_owner = nobody;
+    Ok(())
 }

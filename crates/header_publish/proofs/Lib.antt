@@ -1,3 +1,2 @@
--- What the publishes and the bumps store to, and a publish that stores nothing new.
-pub mod Kept
+-- What the publishes and the bumps store to.
 pub mod Stored

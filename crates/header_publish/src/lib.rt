@@ -1,90 +1,58 @@
-// Publishes and bumps. The header goes in by value and comes back.
+// Publishes and bumps. The header is lent, and each call stores to its own cells alone, in the order of the definitions.
 #![tactic(auto)]
 
-ghost use Rattle.std.specs.Prelude.{◌≡◌, max, not, ◌==◌};
+ghost use Rattle.std.specs.Prelude.{◌≡◌};
 ghost use Rattle.wal_types.specs.Call.{ok, value};
 ghost use Rattle.header_publish.specs.Publish.{publish_commit, publish_backfill, bump_checkpoint_seq, bump_checkpoint_epoch, HeaderCall};
 
 use wal_types::Header;
 
-// A counter's number, with the header after its bump.
-#[repr(C)]
-#[derive(Clone, Copy)]
-pub struct Bumped {
-    pub header: Header,
-    pub value: u32,
-}
-
-fn larger(a: u64, b: u64) -> u64
-    ensures { result ≡ max a b }
-{
-    if a < b { b } else { a }
-}
-
 // Publishes a committed transaction. A later commit by another process may have raised the published frame or the
 // count already: neither is lowered, and the checksums then stay the later commit's.
 pub fn publish_commit(
-    header: Header,
+    header: &mut Header,
     max_frame: u64,
     checksum_1: u32,
     checksum_2: u32,
     transaction_count: u64,
-) -> Header
-    ensures { HeaderCall (publish_commit max_frame checksum_1 checksum_2 transaction_count) header ok result }
+)
+    ensures { HeaderCall (publish_commit max_frame checksum_1 checksum_2 transaction_count) header.old ok header.new }
 {
-    let frame = larger(header.max_frame, max_frame);
-    let count = larger(header.transaction_count, transaction_count);
-    let generation = std::num::wrapping_add_u64(header.visibility_generation, 1);
-    let mut next = header;
-    next.max_frame = frame;
-    next.transaction_count = count;
-    next.visibility_generation = generation;
-    if header.max_frame <= max_frame {
-        next.checksum_1 = checksum_1;
-        next.checksum_2 = checksum_2;
+    let published = header.max_frame;
+    let counted = header.transaction_count;
+    header.max_frame = published.max(max_frame);
+    if published <= max_frame {
+        header.checksum_1 = checksum_1;
+        header.checksum_2 = checksum_2;
     }
-    next
+    header.transaction_count = counted.max(transaction_count);
+    header.visibility_generation = header.visibility_generation.wrapping_add(1);
 }
 
-// Publishes how many frames are copied to the database file.
-pub fn publish_backfill(header: Header, nbackfills: u64) -> Header
-    ensures { HeaderCall (publish_backfill nbackfills) header ok result }
+// Publishes how many frames are copied to the database file. The number that is there already is not stored again, so that
+// such a call can be made on memory that is mapped read-only.
+pub fn publish_backfill(header: &mut Header, nbackfills: u64)
+    ensures { HeaderCall (publish_backfill nbackfills) header.old ok header.new }
 {
-    let mut next = header;
-    next.nbackfills = nbackfills;
-    next
-}
-
-// Whether that header is another.
-pub fn backfill_changes(header: Header, nbackfills: u64) -> bool
-    ensures { result ≡ not (nbackfills == header.nbackfills) }
-{
-    nbackfills != header.nbackfills
+    if nbackfills != header.nbackfills {
+        header.nbackfills = nbackfills;
+    }
 }
 
 // Answers the new checkpoint number.
-pub fn bump_checkpoint_seq(header: Header) -> Bumped
-    ensures { HeaderCall bump_checkpoint_seq header (value result.value) result.header }
+pub fn bump_checkpoint_seq(header: &mut Header) -> u32
+    ensures { HeaderCall bump_checkpoint_seq header.old (value result) header.new }
 {
-    let seq = std::num::wrapping_add_u32(header.checkpoint_seq, 1);
-    let mut next = header;
-    next.checkpoint_seq = seq;
-    Bumped {
-        header: next,
-        value: seq,
-    }
+    let seq = header.checkpoint_seq.wrapping_add(1);
+    header.checkpoint_seq = seq;
+    seq
 }
 
 // Answers the checkpoint epoch as it was before.
-pub fn bump_checkpoint_epoch(header: Header) -> Bumped
-    ensures { HeaderCall bump_checkpoint_epoch header (value result.value) result.header }
+pub fn bump_checkpoint_epoch(header: &mut Header) -> u32
+    ensures { HeaderCall bump_checkpoint_epoch header.old (value result) header.new }
 {
     let previous = header.checkpoint_epoch;
-    let epoch = std::num::wrapping_add_u32(previous, 1);
-    let mut next = header;
-    next.checkpoint_epoch = epoch;
-    Bumped {
-        header: next,
-        value: previous,
-    }
+    header.checkpoint_epoch = previous.wrapping_add(1);
+    previous
 }

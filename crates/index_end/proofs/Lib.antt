@@ -1,3 +1,2 @@
--- Laws of the kept length, and of cells that do not change a header.
-mod Change
+-- Laws of the kept length.
 pub mod Turns

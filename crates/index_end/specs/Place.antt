@@ -1,11 +1,9 @@
 -- Where a record's entry goes, and which frames are out of order (document 01, "record_frame"). Assumes nothing.
-use Rattle.std.specs.Prelude.{Bool, not, ◌&&◌, ◌||◌, cond, List, ℕ, ◌+◌, ◌-◌, eqb, leb, ltb, get_or}
+use Rattle.std.specs.Prelude.{Bool, not, ◌&&◌, ◌||◌, cond, List, ℕ, ◌+◌, ◌-◌, eqb, leb, ltb, get_or, Option, Some, None}
 use Rattle.wal_types.specs.declared.Header.{Header}
 use Rattle.wal_types.specs.Settings.{entries_for}
 use Rattle.wal_types.specs.Memory.{frame_index_len_cell, frame_index_overflowed_cell, frame_index_blocks_cell}
 use Rattle.index_end.specs.declared.cells.IndexCells.{IndexCells}
-use Rattle.index_end.specs.declared.place.Place.{Place}
-use Rattle.index_end.specs.declared.place.Place.TheVariants.{AtEnd, NoPlace}
 use Rattle.index_end.specs.Cells.{cells_of, cells_with}
 
 -- Frame 1 while the published frame is 0 resets the index.
@@ -27,10 +25,10 @@ drops capacity b grow s =
     leb capacity s.frame_index_len || (blocks_full s && (leb b s.frame_index_blocks || not grow))
 
 -- where the entry goes: nowhere, or at the end of the index, after a growth where the blocks are full
-unfoldable pub placed : ℕ → ℕ → Bool → IndexCells → Place
+unfoldable pub placed : ℕ → ℕ → Bool → IndexCells → Option IndexCells
 placed capacity b grow s =
-    cond (drops capacity b grow s) NoPlace
-    (AtEnd (cond (blocks_full s) (cells_with frame_index_blocks_cell (s.frame_index_blocks + 1) s) s))
+    cond (drops capacity b grow s) None
+    (Some (cond (blocks_full s) (cells_with frame_index_blocks_cell (s.frame_index_blocks + 1) s) s))
 
 -- a frame not above the last one of n
 abbrev pub out_of_order : ℕ → ℕ → List ℕ → Bool

@@ -1,12 +1,35 @@
 -- One block's hash as a part of the whole. Assumes nothing.
-use mathlib.Core.Path.{◌≡◌, ◌∙◌, sym}
-use mathlib.Core.List.{List}
-use Prim.Native.Nat.{ℕ, ◌+◌, ◌-◌, ◌*◌, ◌<◌, ◌≤◌}
+use mathlib.Core.Path.{◌≡◌, ◌∙◌, sym, ap}
+use mathlib.Core.List.{List, []}
+use Rattle.std.specs.Simd.{first_chunks}
+use Prim.Native.Nat.{ℕ, zero, suc, ◌+◌, ◌-◌, ◌*◌, ◌<◌, ◌≤◌, min}
 use native.Mathlib.Omega.{arith}
 use lib.ListN.{length, take, drop, set, get_or, length-append, length-take, length-drop}
-use lib.Seq.{take_at, drop_at, get_or-take, get_or-drop, length-take-le}
+use lib.Seq.{take_at, drop_at, get_or-take, get_or-drop, length-take-le, take-take, drop-drop}
 use borrow.Rule.Slice.PartMut.{put_mid, set_mid_at}
 use Rattle.index_find.specs.Index.{block_cells_of, block_pages_of, with_block}
+use Rattle.index_find.specs.Find.{visible_pages_of}
+
+-- the whole blocks of a hash, each at its place
+chunk : (n m k : ℕ) (xs : List ℕ) → k < m → get_or (first_chunks n m xs) k [] ≡ take n (drop (n * k) xs)
+chunk n zero k xs l = absurd (omega arith)
+chunk n (suc m) zero xs l = let none : n * 0 ≡ 0 = omega arith in rw none
+chunk n (suc m) (suc k) xs l = let next : n * suc k ≡ n + n * k = omega arith in rw next (chunk n m k (drop n xs) (omega arith) ∙ ap (take n) (drop-drop (n * k) n xs))
+
+pub chunk_cells : (m k : ℕ) (h : List ℕ) → k < m → get_or (first_chunks 8192 m h) k [] ≡ block_cells_of k h
+unfolding block_cells_of
+chunk_cells m k h l = chunk 8192 m k h l
+
+-- the pages of block k's visible entries
+pub mid_visible : (k n v : ℕ) (ps : List ℕ) → v ≡ min (n - 4096 * k) 4096 → take (4096 * k + v - 4096 * k) (drop (4096 * k) ps) ≡ visible_pages_of k n ps
+unfolding block_pages_of
+mid_visible k n v ps e =
+    let s : 4096 * k + v - 4096 * k ≡ v = omega arith in
+    rw (s, e) (sym (take-take (min (n - 4096 * k) 4096) 4096 (drop (4096 * k) ps) (omega arith)))
+
+pub length_visible : (k n : ℕ) (ps : List ℕ) → 4096 * k + 4096 ≤ length ps → length (visible_pages_of k n ps) ≡ min (n - 4096 * k) 4096
+unfolding block_pages_of
+length_visible k n ps l = simp (length-take, length-drop) (omega arith)
 
 -- page i of block k
 pub block_page : (k : ℕ) (ps : List ℕ) (i : ℕ) → i < 4096 → get_or (block_pages_of k ps) i 0 ≡ get_or ps (4096 * k + i) 0

@@ -5,12 +5,11 @@ use Prim.Native.Nat.{ℕ, ◌<◌, ◌≤◌}
 use native.Mathlib.Omega.{arith}
 use lib.ListN.{length}
 use borrow.Author.Tests.{eq-eqb, ne_eqb, lt-ltb, le-ltb}
+use Rattle.std.specs.Prelude.{Option}
 use Rattle.wal_types.specs.declared.Header.{Header}
 use Rattle.wal_types.specs.Memory.{Memory, Process}
 use Rattle.wal_types.specs.Refusal.{Test}
 use Rattle.wal_types.specs.Call.{Call, Answer, refused, none, does, done, after}
-use Rattle.index_find.specs.declared.find.Watermark.{Watermark}
-use Rattle.index_find.specs.declared.find.Lookup.{Lookup}
 use Rattle.index_find.specs.Index.{index_refusal, index_in}
 use Rattle.index_find.specs.Find.{visible, find_in, looked_in, blocks_for, BlocksFit, upper, lower, lookup_answer, find_answer, find_frame, find_looked}
 use Rattle.index_find.proofs.Settings.{GoodSettings, LongEnough}
@@ -21,7 +20,7 @@ pub blocks_fit : (capacity b : ℕ) (h : Header) (pages frames hash v : ℕ) →
 blocks_fit capacity b h pages frames hash v good long l =
     record { blocks_most = omega arith; pages_fit = omega arith; frames_fit = omega arith; hash_fit = omega arith }
 
-module _ (capacity b page low high : ℕ) (w : Watermark) (z : Memory) (h : Header) (ps fs hs : List ℕ) (p : Process) where
+module _ (capacity b page low high : ℕ) (w : Option ℕ) (z : Memory) (h : Header) (ps fs hs : List ℕ) (p : Process) where
   abbrev m : Memory
   m = index_in z h ps fs hs
 
@@ -49,11 +48,11 @@ module _ (capacity b page low high : ℕ) (w : Watermark) (z : Memory) (h : Head
     find_empty l = answers none (rw (← eu, lt-ltb u low l))
 
     -- otherwise what the visible blocks give
-    pub find_through : low ≤ u → (l v : ℕ) (r : Lookup) → l ≡ lower low w → v ≡ visible fs h.frame_index_len u → r ≡ find_in (blocks_for v) v ps fs hs page l u → after (find_frame capacity b page low high w) m p ≡ done (lookup_answer r) m p
+    pub find_through : low ≤ u → (l v : ℕ) (r : Option ℕ) → l ≡ lower low w → v ≡ visible fs h.frame_index_len u → r ≡ find_in (blocks_for v) v ps fs hs page l u → after (find_frame capacity b page low high w) m p ≡ done (lookup_answer r) m p
     find_through le l v r el ev er = answers (lookup_answer r) (rw (← eu, le-ltb u low le, ← ev, ← el, ← er))
 
 -- how many cells it looks at
-module _ (capacity b page low high : ℕ) (w : Watermark) (z : Memory) (h : Header) (ps fs hs : List ℕ) where
+module _ (capacity b page low high : ℕ) (w : Option ℕ) (z : Memory) (h : Header) (ps fs hs : List ℕ) where
   abbrev number : ℕ
   number = index_refusal capacity b h (length ps) (length fs) (length hs)
 

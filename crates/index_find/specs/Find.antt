@@ -1,18 +1,12 @@
 -- find_frame (document 01, "find_frame"). Assumes nothing.
-use Rattle.std.specs.Prelude.{cond, List, [], ℕ, zero, suc, ◌+◌, ◌-◌, ◌/◌, ◌≤◌, min, eqb, leb, ltb, get_or}
+use Rattle.std.specs.Prelude.{Option, Some, None, Result, Ok, Err, cond, List, [], ℕ, zero, suc, ◌+◌, ◌-◌, ◌/◌, ◌≤◌, min, take, eqb, leb, ltb, get_or}
 use Rattle.wal_types.specs.Settings.{within, block_entries, entries_for, cells_for}
 use Rattle.wal_types.specs.Memory.{Memory}
-use Rattle.wal_types.specs.Refusal.{lowest}
+use Rattle.wal_types.specs.declared.refusal.Refusal.{Refusal}
+use Rattle.wal_types.specs.Refusal.{number, lowest}
 use Rattle.wal_types.specs.Call.{Call, Answer, refused, frame_found, none, does, unless}
-use Rattle.index_hash.specs.declared.Probe.{Probe}
-use Rattle.index_hash.specs.declared.Probe.TheVariants.{At, Nothing}
 use Rattle.index_hash.specs.Block.{probe, looked}
-use Rattle.index_find.specs.declared.find.Watermark.{Watermark}
-use Rattle.index_find.specs.declared.find.Watermark.TheVariants.{UpTo, NoWatermark}
-use Rattle.index_find.specs.declared.find.Lookup.{Lookup}
-use Rattle.index_find.specs.declared.find.Lookup.TheVariants.{Frame, NoFrame}
-use Rattle.index_find.specs.declared.find.FindAnswer.{FindAnswer}
-use Rattle.index_find.specs.declared.find.FindAnswer.TheVariants.{Frame as FoundFrame, NoFrame as FoundNone, Refused}
+use Rattle.index_find.specs.declared.find.Looked.{Looked}
 use Rattle.index_find.specs.Index.{index_tests, block_cells_of, block_pages_of}
 
 -- The source's binary search for how many entries have a frame of at most `top`, as it is written: on frames that do not
@@ -29,22 +23,26 @@ visible_from (suc fuel) frames top low high =
 unfoldable pub visible : List ℕ → ℕ → ℕ → ℕ
 visible frames len top = visible_from len frames top 0 len
 
+-- the pages of block k's entries among the first n
+abbrev pub visible_pages_of : ℕ → ℕ → List ℕ → List ℕ
+visible_pages_of k n pages = take (min (n - entries_for k) block_entries) (block_pages_of k pages)
+
 -- block k is probed for the page among those of the first n entries that it has
-abbrev pub probe_block : ℕ → ℕ → ℕ → List ℕ → List ℕ → Probe
+abbrev pub probe_block : ℕ → ℕ → ℕ → List ℕ → List ℕ → Option ℕ
 probe_block k page n pages hash = probe (block_cells_of k hash) (block_pages_of k pages) page (min (n - entries_for k) block_entries)
 
 -- the frame of the entry found in block k, if it is within the bounds
-abbrev pub looked_up : ℕ → List ℕ → ℕ → ℕ → Probe → Lookup
-looked_up k frames low high (At i) = cond (within low high (get_or frames (entries_for k + i) 0)) (Frame (get_or frames (entries_for k + i) 0)) NoFrame
-looked_up k frames low high Nothing = NoFrame
+abbrev pub looked_up : ℕ → List ℕ → ℕ → ℕ → Option ℕ → Option ℕ
+looked_up k frames low high (Some i) = cond (within low high (get_or frames (entries_for k + i) 0)) (Some (get_or frames (entries_for k + i) 0)) None
+looked_up k frames low high None = None
 
-abbrev pub else_look : Lookup → Lookup → Lookup
-else_look (Frame f) rest = Frame f
-else_look NoFrame rest = rest
+abbrev pub else_look : Option ℕ → Option ℕ → Option ℕ
+else_look (Some f) rest = Some f
+else_look None rest = rest
 
 -- Blocks are probed from the last one down. After a block whose entry is out of bounds the block before is probed.
-unfoldable pub find_in : ℕ → ℕ → List ℕ → List ℕ → List ℕ → ℕ → ℕ → ℕ → Lookup
-find_in zero n pages frames hash page low high = NoFrame
+unfoldable pub find_in : ℕ → ℕ → List ℕ → List ℕ → List ℕ → ℕ → ℕ → ℕ → Option ℕ
+find_in zero n pages frames hash page low high = None
 find_in (suc k) n pages frames hash page low high =
     else_look (looked_up k frames low high (probe_block k page n pages hash)) (find_in k n pages frames hash page low high)
 
@@ -53,9 +51,9 @@ abbrev pub looked_block : ℕ → ℕ → ℕ → List ℕ → ℕ
 looked_block k page n hash = looked (block_cells_of k hash) page (min (n - entries_for k) block_entries)
 
 -- what the blocks before add: nothing where this one has the frame
-abbrev pub if_none : Lookup → ℕ → ℕ
-if_none (Frame f) rest = 0
-if_none NoFrame rest = rest
+abbrev pub if_none : Option ℕ → ℕ → ℕ
+if_none (Some f) rest = 0
+if_none None rest = rest
 
 -- A number of each block, summed over the blocks that are probed: from the last one down to the one that has the frame, that
 -- one included.
@@ -69,13 +67,13 @@ abbrev pub looked_in : ℕ → ℕ → List ℕ → List ℕ → List ℕ → �
 looked_in k n pages frames hash page low high = summed_in (λ i. looked_block i page n hash) k n pages frames hash page low high
 
 -- The upper bound is the watermark if given, else max. With a watermark the lower bound is 0.
-abbrev pub upper : ℕ → Watermark → ℕ
-upper high (UpTo w) = w
-upper high NoWatermark = high
+abbrev pub upper : ℕ → Option ℕ → ℕ
+upper high (Some w) = w
+upper high None = high
 
-abbrev pub lower : ℕ → Watermark → ℕ
-lower low (UpTo w) = 0
-lower low NoWatermark = low
+abbrev pub lower : ℕ → Option ℕ → ℕ
+lower low (Some w) = 0
+lower low None = low
 
 -- blocks that n entries take: n / 4,096 rounded up
 abbrev pub blocks_for : ℕ → ℕ
@@ -88,12 +86,12 @@ pub record BlocksFit (n pages frames hash : ℕ) : Type 0 where
   pub frames_fit : entries_for (blocks_for n) ≤ frames
   pub hash_fit : cells_for (blocks_for n) ≤ hash
 
-abbrev pub lookup_answer : Lookup → Answer
-lookup_answer (Frame f) = frame_found f
-lookup_answer NoFrame = none
+abbrev pub lookup_answer : Option ℕ → Answer
+lookup_answer (Some f) = frame_found f
+lookup_answer None = none
 
 -- Upper below min: none. Else the entries that the upper bound makes visible are looked through.
-abbrev pub find_answer : ℕ → ℕ → ℕ → Watermark → Memory → Answer
+abbrev pub find_answer : ℕ → ℕ → ℕ → Option ℕ → Memory → Answer
 find_answer page low high w m =
     cond (ltb (upper high w) low) none
     (lookup_answer
@@ -101,13 +99,13 @@ find_answer page low high w m =
     (visible m.frames m.header.frame_index_len (upper high w))
     m.pages m.frames m.hash page (lower low w) (upper high w)))
 
-unfoldable pub find_frame : ℕ → ℕ → ℕ → ℕ → ℕ → Watermark → Call
+unfoldable pub find_frame : ℕ → ℕ → ℕ → ℕ → ℕ → Option ℕ → Call
 find_frame capacity b page low high w =
     unless (λ m p. index_tests capacity b m) (λ m. does (find_answer page low high w m) (λ z. []) m)
 
 -- A number of each block, given the block and how many entries are visible, summed over the blocks that the lookup probes.
 -- Upper below min, or no visible entry: no block.
-abbrev pub summed_answer : (ℕ → ℕ → ℕ) → ℕ → ℕ → ℕ → Watermark → Memory → ℕ
+abbrev pub summed_answer : (ℕ → ℕ → ℕ) → ℕ → ℕ → ℕ → Option ℕ → Memory → ℕ
 summed_answer of_block page low high w m =
     cond (ltb (upper high w) low) 0
     (summed_in (λ k. of_block k (visible m.frames m.header.frame_index_len (upper high w)))
@@ -116,20 +114,18 @@ summed_answer of_block page low high w m =
     m.pages m.frames m.hash page (lower low w) (upper high w))
 
 -- HOW MANY HASH CELLS A LOOKUP LOOKS AT (document 02, Slip 1): those of each block's probe
-abbrev pub looked_answer : ℕ → ℕ → ℕ → Watermark → Memory → ℕ
+abbrev pub looked_answer : ℕ → ℕ → ℕ → Option ℕ → Memory → ℕ
 looked_answer page low high w m = summed_answer (λ k n. looked_block k page n m.hash) page low high w m
 
 -- a refused lookup looks at none
-unfoldable pub find_looked : ℕ → ℕ → ℕ → ℕ → ℕ → Watermark → Memory → ℕ
+unfoldable pub find_looked : ℕ → ℕ → ℕ → ℕ → ℕ → Option ℕ → Memory → ℕ
 find_looked capacity b page low high w m = cond (eqb (lowest (index_tests capacity b m)) 0) (looked_answer page low high w m) 0
 
--- What each case of the answer tells: the answer, and the cells.
-abbrev pub found_answer : FindAnswer → Answer
-found_answer (FoundFrame f cells) = frame_found f
-found_answer (FoundNone cells) = none
-found_answer (Refused n) = refused n
+-- What a call's result tells: the answer, and the cells.
+abbrev pub found_answer : Result Looked Refusal → Answer
+found_answer (Ok looked) = lookup_answer looked.found
+found_answer (Err r) = refused (number r)
 
-abbrev pub cells_told : FindAnswer → ℕ
-cells_told (FoundFrame f cells) = cells
-cells_told (FoundNone cells) = cells
-cells_told (Refused n) = 0
+abbrev pub cells_told : Result Looked Refusal → ℕ
+cells_told (Ok looked) = looked.cells
+cells_told (Err r) = 0

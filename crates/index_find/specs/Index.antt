@@ -1,13 +1,12 @@
 -- What all calls on the index share: its refusals, its blocks, and the stores of a hash table's clearing and of one entry's naming. Assumes nothing.
-use Rattle.std.specs.Prelude.{◌≡◌, Bool, not, ◌||◌, cond, List, [], ◌∷◌, ◌++◌, ℕ, zero, suc, ◌+◌, ◌/◌, ◌%◌, ◌<◌, ◌≤◌, ltb, length, get_or, take, drop}
+use Rattle.std.specs.Prelude.{Option, Some, None, ◌≡◌, Bool, not, ◌||◌, cond, List, [], ◌∷◌, ◌++◌, ℕ, zero, suc, ◌+◌, ◌/◌, ◌%◌, ◌<◌, ◌≤◌, ltb, length, get_or, take, drop}
 use Rattle.wal_types.specs.declared.Header.{Header}
 use Rattle.wal_types.specs.Settings.{capacity_in_limits, max_blocks_in_limits, block_entries, block_cells, entries_for, cells_for}
 use Rattle.wal_types.specs.Memory.{Memory, Process, with_header, with_index, Store, to_hash}
 use Rattle.wal_types.specs.Store.{Piece, ◌then◌}
-use Rattle.wal_types.specs.Refusal.{Test, ◌if◌, number, settings, short_memory}
+use Rattle.wal_types.specs.Refusal.{Test, ◌if◌, number}
+use Rattle.wal_types.specs.declared.refusal.Refusal.TheVariants.{Settings, ShortMemory}
 use Rattle.wal_types.specs.Call.{Call, Carried, Answer, after, done}
-use Rattle.index_hash.specs.declared.Cell.{Cell}
-use Rattle.index_hash.specs.declared.Cell.TheVariants.{Empty, Full}
 use Rattle.index_hash.specs.Block.{empty_cell}
 
 -- Refusal 1: a setting out of its limits, length above capacity or 4,096 × blocks, or blocks above B.
@@ -29,24 +28,24 @@ short_index b pages frames hash = short_entries b pages frames || ltb hash (cell
 -- the refusals that every call on the index has that is lent the hash, and those of a call that is not
 abbrev pub index_tests : ℕ → ℕ → Memory → List Test
 index_tests capacity b m =
-    (settings if bad_settings capacity b m.header)
-    ∷ (short_memory if short_index b (length m.pages) (length m.frames) (length m.hash))
+    (Settings if bad_settings capacity b m.header)
+    ∷ (ShortMemory if short_index b (length m.pages) (length m.frames) (length m.hash))
     ∷ []
 
 abbrev pub entries_tests : ℕ → ℕ → Memory → List Test
 entries_tests capacity b m =
-    (settings if bad_settings capacity b m.header)
-    ∷ (short_memory if short_entries b (length m.pages) (length m.frames))
+    (Settings if bad_settings capacity b m.header)
+    ∷ (ShortMemory if short_entries b (length m.pages) (length m.frames))
     ∷ []
 
 -- the number of the first of each, 0 if there is none
 abbrev pub index_refusal : ℕ → ℕ → Header → ℕ → ℕ → ℕ → ℕ
 index_refusal capacity b h pages frames hash =
-    cond (bad_settings capacity b h) (number settings) (cond (short_index b pages frames hash) (number short_memory) 0)
+    cond (bad_settings capacity b h) (number Settings) (cond (short_index b pages frames hash) (number ShortMemory) 0)
 
 abbrev pub entries_refusal : ℕ → ℕ → Header → ℕ → ℕ → ℕ
 entries_refusal capacity b h pages frames =
-    cond (bad_settings capacity b h) (number settings) (cond (short_entries b pages frames) (number short_memory) 0)
+    cond (bad_settings capacity b h) (number Settings) (cond (short_entries b pages frames) (number ShortMemory) 0)
 
 -- Entry n is in block n / 4,096, at place n mod 4,096.
 abbrev pub block_of : ℕ → ℕ
@@ -76,9 +75,9 @@ abbrev pub clear_block : ℕ → Piece
 clear_block k m = zero_stores block_cells (cells_for k)
 
 -- Block k's hash names the entry at a place in the cell found for it; in a full table nothing is stored.
-abbrev pub name_stores : ℕ → ℕ → Cell → List Store
-name_stores k place (Empty cell) = to_hash (cells_for k + cell) (place + 1) ∷ []
-name_stores k place Full = []
+abbrev pub name_stores : ℕ → ℕ → Option ℕ → List Store
+name_stores k place (Some cell) = to_hash (cells_for k + cell) (place + 1) ∷ []
+name_stores k place None = []
 
 -- Entry n, of this page, is inserted into its block's hash.
 abbrev pub insert_entry : ℕ → ℕ → Piece

@@ -2,3 +2,4 @@
 pub mod Index
 pub mod Find
 pub mod InnerFound
+pub mod InnerLookup

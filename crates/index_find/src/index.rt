@@ -1,98 +1,71 @@
 // What the calls on the index share: the refusals that all of them have, and one block's hash as a part of the whole.
 ghost use Rattle.std.specs.Prelude.{◌≡◌, ◌+◌, ◌*◌, ◌<◌, ◌≤◌, length, set};
 ghost use Rattle.wal_types.specs.Settings.{block_entries, block_cells};
+ghost use Rattle.wal_types.specs.Refusal.{refused_number};
 ghost use Rattle.index_hash.specs.Block.{cleared, empty_cell, built};
-ghost use Rattle.index_find.specs.Index.{bad_settings, short_entries, short_index, index_refusal, entries_refusal, block_cells_of, block_pages_of, with_block};
+ghost use Rattle.index_find.specs.Index.{bad_settings, short_entries, index_refusal, entries_refusal, block_cells_of, block_pages_of, with_block};
 
-use index_hash::{BLOCK_CELLS, BLOCK_ENTRIES, Cell};
-use wal_types::{FRAME_INDEX_BLOCK_CAPACITY, Header, refusal};
+use index_hash::{BLOCK_CELLS, BLOCK_ENTRIES};
+use wal_types::refusal::Refusal;
+use wal_types::{FRAME_INDEX_BLOCK_CAPACITY, Header};
 
 fn bad_settings(capacity: u32, max_blocks: u32, header: Header) -> bool
     ensures { result ≡ bad_settings capacity max_blocks header }
 {
-    if capacity < 1 {
-        return true;
-    }
-    if 65536 < capacity {
-        return true;
-    }
-    if max_blocks < 1 {
-        return true;
-    }
-    if 16 < max_blocks {
-        return true;
-    }
-    if capacity < header.frame_index_len {
-        return true;
-    }
-    if max_blocks < header.frame_index_blocks {
-        return true;
-    }
-    FRAME_INDEX_BLOCK_CAPACITY * header.frame_index_blocks < header.frame_index_len
+    !(1..=65536).contains(&capacity)
+        || !(1..=16).contains(&max_blocks)
+        || capacity < header.frame_index_len
+        || max_blocks < header.frame_index_blocks
+        || FRAME_INDEX_BLOCK_CAPACITY * header.frame_index_blocks < header.frame_index_len
 }
 
 fn short_entries(max_blocks: u32, pages_len: usize, frames_len: usize) -> bool
     requires { max_blocks ≤ 16 }
     ensures { result ≡ short_entries max_blocks pages_len frames_len }
 {
-    let blocks = max_blocks as usize;
-    if pages_len < BLOCK_ENTRIES * blocks {
-        return true;
-    }
-    frames_len < BLOCK_ENTRIES * blocks
+    let entries = BLOCK_ENTRIES * max_blocks as usize;
+    pages_len < entries || frames_len < entries
 }
 
-fn short_index(max_blocks: u32, pages_len: usize, frames_len: usize, hash_len: usize) -> bool
-    requires { max_blocks ≤ 16 }
-    ensures { result ≡ short_index max_blocks pages_len frames_len hash_len }
+// The refusals that every call on the index has that is lent the entries without the hash.
+pub fn check_entries(
+    capacity: u32,
+    max_blocks: u32,
+    header: Header,
+    pages_len: usize,
+    frames_len: usize,
+) -> Result<(), Refusal>
+    ensures { refused_number result ≡ entries_refusal capacity max_blocks header pages_len frames_len }
 {
-    if short_entries(max_blocks, pages_len, frames_len) {
-        return true;
+    if bad_settings(capacity, max_blocks, header) {
+        return Err(Refusal::Settings);
     }
-    let blocks = max_blocks as usize;
-    hash_len < BLOCK_CELLS * blocks
+    if short_entries(max_blocks, pages_len, frames_len) {
+        return Err(Refusal::ShortMemory);
+    }
+    Ok(())
 }
 
-// The number of the refusal that every call on the index has that is lent the hash, 0 if there is none.
-pub fn index_refusal(
+// Those of a call that is lent the hash too.
+pub fn check_index(
     capacity: u32,
     max_blocks: u32,
     header: Header,
     pages_len: usize,
     frames_len: usize,
     hash_len: usize,
-) -> u32
-    ensures { result ≡ index_refusal capacity max_blocks header pages_len frames_len hash_len }
+) -> Result<(), Refusal>
+    ensures { refused_number result ≡ index_refusal capacity max_blocks header pages_len frames_len hash_len }
 {
-    if bad_settings(capacity, max_blocks, header) {
-        return refusal::SETTINGS;
+    check_entries(capacity, max_blocks, header, pages_len, frames_len)?;
+    if hash_len < BLOCK_CELLS * max_blocks as usize {
+        return Err(Refusal::ShortMemory);
     }
-    if short_index(max_blocks, pages_len, frames_len, hash_len) {
-        return refusal::SHORT_MEMORY;
-    }
-    0
+    Ok(())
 }
 
-// The same of a call that is lent the entries without the hash.
-pub fn entries_refusal(
-    capacity: u32,
-    max_blocks: u32,
-    header: Header,
-    pages_len: usize,
-    frames_len: usize,
-) -> u32
-    ensures { result ≡ entries_refusal capacity max_blocks header pages_len frames_len }
-{
-    if bad_settings(capacity, max_blocks, header) {
-        return refusal::SETTINGS;
-    }
-    if short_entries(max_blocks, pages_len, frames_len) {
-        return refusal::SHORT_MEMORY;
-    }
-    0
-}
-
-// Clears block k's hash.
+// Clears block k's hash. (That block k is lent stands in these three contracts: a type of block numbers would only move it to
+// the callers, who have it from HasRoom or from the lengths.)
 pub fn clear_block(hash: &mut [u16], k: usize)
     requires { (k < 16) × (block_cells * k + block_cells ≤ length hash.old) }
     ensures { hash.new ≡ with_block k cleared hash.old }
@@ -102,14 +75,21 @@ pub fn clear_block(hash: &mut [u16], k: usize)
     index_hash::clear_frame_index_block_hash(&mut hash[a..e]);
 }
 
+// Block k's hash.
+pub fn block_hash(hash: &[u16], k: usize) -> &[u16; BLOCK_CELLS]
+    requires { block_cells * k + block_cells ≤ length hash.now }
+    ensures { result.now ≡ block_cells_of k hash.now }
+{
+    let (blocks, _) = hash.as_chunks::<BLOCK_CELLS>();
+    &blocks[k]
+}
+
 // The cell of block k's hash for a page's next entry.
-pub fn cell_in_block(hash: &[u16], k: usize, page_id: u64) -> Cell
+pub fn cell_in_block(hash: &[u16], k: usize, page_id: u64) -> Option<usize>
     requires { (k < 16) × (block_cells * k + block_cells ≤ length hash.now) }
     ensures { result ≡ empty_cell (block_cells_of k hash.now) page_id }
 {
-    let a = BLOCK_CELLS * k;
-    let e = a + BLOCK_CELLS;
-    index_search::empty::empty_cell(&hash[a..e], page_id)
+    index_search::empty::empty_cell(block_hash(hash, k), page_id)
 }
 
 // That cell names the entry at a place of block k.

@@ -7,13 +7,13 @@ use native.Mathlib.Decide.{ℕ_discrete}
 use lib.Dec.{ltb}
 use lib.ListN.{length}
 use borrow.Author.Tests.{le-ltb}
+use Rattle.std.specs.Prelude.{Option, Some, None}
 use Rattle.wal_types.specs.Settings.{capacity_in_limits, max_blocks_in_limits, entries_for, cells_for}
 use Rattle.wal_types.specs.Memory.{Memory, Process}
-use Rattle.wal_types.specs.Refusal.{Test, ◌if◌, short_list, lowest}
+use Rattle.wal_types.specs.Refusal.{Test, ◌if◌, lowest}
+use Rattle.wal_types.specs.declared.refusal.Refusal.TheVariants.{ShortList}
 use Rattle.wal_types.specs.Call.{Call, Answer, refused, none, listed, does, Done, done, after, unless}
 use Rattle.wal_types.proofs.Refusals.{call_refused, call_accepted}
-use Rattle.index_find.specs.declared.find.Watermark.{Watermark}
-use Rattle.index_find.specs.declared.find.Watermark.TheVariants.{UpTo, NoWatermark}
 use Rattle.index_find.specs.Index.{index_refusal}
 use Rattle.index_find.specs.Find.{lookup_answer, find_answer, find_frame}
 use Rattle.index_find.proofs.Refused.{index_passed}
@@ -43,29 +43,29 @@ module _ (capacity b : ℕ) (m : Memory) (grown : Grown capacity b m) where
       )
 
   module _ (p : Process) where
-    find_answers : (page low high : ℕ) (w : Watermark) (a : Answer) → number_of ≡ 0 → find_answer page low high w m ≡ a → after (find_frame capacity b page low high w) m p ≡ done a m p
+    find_answers : (page low high : ℕ) (w : Option ℕ) (a : Answer) → number_of ≡ 0 → find_answer page low high w m ≡ a → after (find_frame capacity b page low high w) m p ≡ done a m p
     unfolding find_frame
     find_answers page low high w a passed e =
         index_passed capacity b (λ m p. []) (λ m. does (find_answer page low high w m) (λ z. []) m) m p passed ∙ ap (λ (x : Answer). done x m p) e
 
     -- a lookup answers the greatest frame of the page within the bounds, or none; and changes nothing
-    pub find_done : (page low high : ℕ) → number_of ≡ 0 → after (find_frame capacity b page low high NoWatermark) m p ≡ done (lookup_answer (greatest (entries m) page low high)) m p
-    find_done page low high passed = find_answers page low high NoWatermark _ passed (lookup_gives capacity b m grown page low high)
+    pub find_done : (page low high : ℕ) → number_of ≡ 0 → after (find_frame capacity b page low high None) m p ≡ done (lookup_answer (greatest (entries m) page low high)) m p
+    find_done page low high passed = find_answers page low high None _ passed (lookup_gives capacity b m grown page low high)
 
     -- with a watermark below min: none; else the greatest frame of the page up to it
-    pub find_below : (page low high w : ℕ) → number_of ≡ 0 → w < low → after (find_frame capacity b page low high (UpTo w)) m p ≡ done none m p
-    find_below page low high w passed l = find_answers page low high (UpTo w) none passed (lookup_below capacity b m grown page low high w l)
+    pub find_below : (page low high w : ℕ) → number_of ≡ 0 → w < low → after (find_frame capacity b page low high (Some w)) m p ≡ done none m p
+    find_below page low high w passed l = find_answers page low high (Some w) none passed (lookup_below capacity b m grown page low high w l)
 
-    pub find_watermark : (page low high w : ℕ) → number_of ≡ 0 → low ≤ w → after (find_frame capacity b page low high (UpTo w)) m p ≡ done (lookup_answer (greatest (entries m) page 0 w)) m p
-    find_watermark page low high w passed l = find_answers page low high (UpTo w) _ passed (lookup_watermark capacity b m grown page low high w l)
+    pub find_watermark : (page low high w : ℕ) → number_of ≡ 0 → low ≤ w → after (find_frame capacity b page low high (Some w)) m p ≡ done (lookup_answer (greatest (entries m) page 0 w)) m p
+    find_watermark page low high w passed l = find_answers page low high (Some w) _ passed (lookup_watermark capacity b m grown page low high w l)
 
     -- BY CASES: a lookup without a watermark is refused, or answers by the entries; in both it changes nothing
-    pub find_cases : (page low high : ℕ) (P : Done → Type 0) → ((n : ℕ) → P (done (refused n) m p)) → P (done (lookup_answer (greatest (entries m) page low high)) m p) → P (after (find_frame capacity b page low high NoWatermark) m p)
+    pub find_cases : (page low high : ℕ) (P : Done → Type 0) → ((n : ℕ) → P (done (refused n) m p)) → P (done (lookup_answer (greatest (entries m) page low high)) m p) → P (after (find_frame capacity b page low high None) m p)
     find_cases page low high P refuses finds = go (ℕ_discrete number_of 0)
       where
-        go : Dec (number_of ≡ 0) → P (after (find_frame capacity b page low high NoWatermark) m p)
+        go : Dec (number_of ≡ 0) → P (after (find_frame capacity b page low high None) m p)
         go (yes e) = subst P (sym (find_done page low high e)) finds
-        go (no i) = subst P (sym (find_refused capacity b page low high NoWatermark m m.header m.pages m.frames m.hash p number_of refl i)) (refuses number_of)
+        go (no i) = subst P (sym (find_refused capacity b page low high None m m.header m.pages m.frames m.hash p number_of refl i)) (refuses number_of)
 
 -- iter_latest_frames, on any memory
 module _ (capacity b low high room_pages room_frames : ℕ) (m : Memory) (p : Process) where
@@ -92,4 +92,4 @@ module _ (capacity b low high room_pages room_frames : ℕ) (m : Memory) (p : Pr
       index_passed capacity b own lists m p passed ∙ call_accepted own lists m p (rw (le-ltb _ _ i, le-ltb _ _ j))
     where
       own : Memory → Process → List Test
-      own m p = (short_list if (ltb room_pages (length (listed_entries low high m)) || ltb room_frames (length (listed_entries low high m)))) ∷ []
+      own m p = (ShortList if (ltb room_pages (length (listed_entries low high m)) || ltb room_frames (length (listed_entries low high m)))) ∷ []

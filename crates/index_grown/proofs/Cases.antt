@@ -10,14 +10,12 @@ use native.Mathlib.Omega.{arith}
 use lib.ListN.{length, get_or, length-map}
 use lib.Seq.{get_or-set_same}
 use borrow.Author.Tests.{ne_eqb}
+use Rattle.std.specs.Prelude.{Some, None}
 use Rattle.index_end.specs.declared.cells.IndexCells.{IndexCells}
 use Rattle.wal_types.specs.Memory.{Memory, Process}
 use Rattle.wal_types.specs.Fresh.{Fresh}
 use Rattle.wal_types.specs.Call.{Pair, pair, Answer, stored, frame_found, none, listed, Done, done, after}
 use Rattle.index_hash.specs.Home.{home}
-use Rattle.index_find.specs.declared.find.Watermark.TheVariants.{UpTo, NoWatermark}
-use Rattle.index_find.specs.declared.find.Lookup.TheVariants.{Frame, NoFrame}
-use Rattle.index_end.specs.declared.place.Place.TheVariants.{AtEnd}
 use Rattle.index_end.specs.Place.{started, placed, out_of_order}
 use Rattle.index_find.specs.Find.{lookup_answer, find_frame}
 use Rattle.list_latest.specs.Latest.{listed_entries, pairs_of, iter_latest_frames}
@@ -36,17 +34,17 @@ abbrev three : List Pair
 three = pair 7 1 ∷ (pair 8199 2 ∷ (pair 7 3 ∷ []))
 
 -- another page has none of them
-other_page : (page low high : ℕ) → (7 ≡ page → ⊥) → (8199 ≡ page → ⊥) → greatest three page low high ≡ NoFrame
+other_page : (page low high : ℕ) → (7 ≡ page → ⊥) → (8199 ≡ page → ⊥) → greatest three page low high ≡ None
 unfolding greatest
 other_page page low high a b = rw (ne_eqb 7 page a, ne_eqb 8199 page b)
 
 -- a list of them, by what the two pages have
-list_of : (low high : ℕ) (l : List Pair) → PagesRise 0 l → ((page f : ℕ) → Memᴰ (pair page f) l → greatest three page low high ≡ Frame f)
-    → ((f : ℕ) → greatest three 7 low high ≡ Frame f → Memᴰ (pair 7 f) l) → ((f : ℕ) → greatest three 8199 low high ≡ Frame f → Memᴰ (pair 8199 f) l) → IsListOf three low high l
+list_of : (low high : ℕ) (l : List Pair) → PagesRise 0 l → ((page f : ℕ) → Memᴰ (pair page f) l → greatest three page low high ≡ Some f)
+    → ((f : ℕ) → greatest three 7 low high ≡ Some f → Memᴰ (pair 7 f) l) → ((f : ℕ) → greatest three 8199 low high ≡ Some f → Memᴰ (pair 8199 f) l) → IsListOf three low high l
 list_of low high l rises only seven other =
     record { rises = rises; only = only; every = λ page f e. go page f e (ℕ_discrete 7 page) (ℕ_discrete 8199 page) }
   where
-    go : (page f : ℕ) → greatest three page low high ≡ Frame f → Dec (7 ≡ page) → Dec (8199 ≡ page) → Memᴰ (pair page f) l
+    go : (page f : ℕ) → greatest three page low high ≡ Some f → Dec (7 ≡ page) → Dec (8199 ≡ page) → Memᴰ (pair page f) l
     go page f e (yes a) d = subst (λ (x : ℕ). Memᴰ (pair x f) l) a (seven f (rw (← a) at e))
     go page f e (no a) (yes d) = subst (λ (x : ℕ). Memᴰ (pair x f) l) d (other f (rw (← d) at e))
     go page f e (no a) (no d) =
@@ -61,7 +59,7 @@ page_is page f x g e = ap (λ (q : Pair). q.page) e
 frame_is : (page f x g : ℕ) → pair page f ≡ pair x g → f ≡ g
 frame_is page f x g e = ap (λ (q : Pair). q.frame) e
 
-at_page : (low high x g : ℕ) → greatest three x low high ≡ Frame g → (page f : ℕ) → pair page f ≡ pair x g → greatest three page low high ≡ Frame f
+at_page : (low high x g : ℕ) → greatest three x low high ≡ Some g → (page f : ℕ) → pair page f ≡ pair x g → greatest three page low high ≡ Some f
 at_page low high x g e page f q = rw (page_is page f x g q, frame_is page f x g q) e
 
 is_2_2 : IsListOf three 2 2 (pair 8199 2 ∷ [])
@@ -109,7 +107,7 @@ module _ (m : Memory) (n : ℕ) (fresh : Fresh 1 1 n m) (long : LongMemory 1 m) 
   g0 : Grown 4096 1 m
   g0 = fresh_grown 4096 1 m 1 n (omega arith) fresh long
 
-  end0 : placed 4096 1 false (started 1 m.header) ≡ AtEnd (cells_at 0)
+  end0 : placed 4096 1 false (started 1 m.header) ≡ Some (cells_at 0)
   unfolding placed started
   end0 = rw fresh.header_fresh
 
@@ -125,7 +123,7 @@ module _ (m : Memory) (n : ℕ) (fresh : Fresh 1 1 n m) (long : LongMemory 1 m) 
       ∙ rw fresh.header_fresh
 
   -- the second
-  end1 : placed 4096 1 false (started 2 m1.header) ≡ AtEnd (cells_at 1)
+  end1 : placed 4096 1 false (started 2 m1.header) ≡ Some (cells_at 1)
   unfolding placed started
   end1 = refl
 
@@ -144,7 +142,7 @@ module _ (m : Memory) (n : ℕ) (fresh : Fresh 1 1 n m) (long : LongMemory 1 m) 
       ∙ ap (λ (l : List Pair). l ++ (pair 8199 2 ∷ [])) entries1
 
   -- the third
-  end2 : placed 4096 1 false (started 3 m2.header) ≡ AtEnd (cells_at 2)
+  end2 : placed 4096 1 false (started 3 m2.header) ≡ Some (cells_at 2)
   unfolding placed started
   end2 = refl
 
@@ -168,20 +166,20 @@ module _ (m : Memory) (n : ℕ) (fresh : Fresh 1 1 n m) (long : LongMemory 1 m) 
       ∙ (ap (λ (d : Done). (recorded 7 3 d.memory p).memory) second_record ∙ ap (λ (d : Done). d.memory) third_record)
 
   -- a lookup after the three records, by their pairs
-  looks : (page low high : ℕ) (a : Answer) → lookup_answer (greatest three page low high) ≡ a → then_find m p page low high NoWatermark ≡ a
+  looks : (page low high : ℕ) (a : Answer) → lookup_answer (greatest three page low high) ≡ a → then_find m p page low high None ≡ a
   looks page low high a e =
-      ap (λ (x : Memory). (after (find_frame 4096 1 page low high NoWatermark) x p).answer) after_three
+      ap (λ (x : Memory). (after (find_frame 4096 1 page low high None) x p).answer) after_three
       ∙ (ap (λ (d : Done). d.answer) (find_done 4096 1 m3 g3 p page low high (grown_accepted 4096 1 m3 g3 refl refl)) ∙ (ap (λ (l : List Pair). lookup_answer (greatest l page low high)) entries3 ∙ e))
 
   -- with a watermark of at least min, and with one below it
-  looks_up_to : (low high w : ℕ) (a : Answer) → low ≤ w → lookup_answer (greatest three 7 0 w) ≡ a → then_find m p 7 low high (UpTo w) ≡ a
+  looks_up_to : (low high w : ℕ) (a : Answer) → low ≤ w → lookup_answer (greatest three 7 0 w) ≡ a → then_find m p 7 low high (Some w) ≡ a
   looks_up_to low high w a l e =
-      ap (λ (x : Memory). (after (find_frame 4096 1 7 low high (UpTo w)) x p).answer) after_three
+      ap (λ (x : Memory). (after (find_frame 4096 1 7 low high (Some w)) x p).answer) after_three
       ∙ (ap (λ (d : Done). d.answer) (find_watermark 4096 1 m3 g3 p 7 low high w (grown_accepted 4096 1 m3 g3 refl refl) l) ∙ (ap (λ (es : List Pair). lookup_answer (greatest es 7 0 w)) entries3 ∙ e))
 
-  looks_below : (low high w : ℕ) → w < low → then_find m p 7 low high (UpTo w) ≡ none
+  looks_below : (low high w : ℕ) → w < low → then_find m p 7 low high (Some w) ≡ none
   looks_below low high w l =
-      ap (λ (x : Memory). (after (find_frame 4096 1 7 low high (UpTo w)) x p).answer) after_three
+      ap (λ (x : Memory). (after (find_frame 4096 1 7 low high (Some w)) x p).answer) after_three
       ∙ ap (λ (d : Done). d.answer) (find_below 4096 1 m3 g3 p 7 low high w (grown_accepted 4096 1 m3 g3 refl refl) l)
 
   -- a list after the three records, by their pairs, with output cells enough

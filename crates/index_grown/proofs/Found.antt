@@ -6,17 +6,14 @@ use native.Mathlib.Decide.{ℕ_discrete, dec_le}
 use native.Mathlib.Omega.{arith}
 use lib.ListN.{get_or}
 use borrow.Author.Tests.{le-leb, lt-leb, lt-ltb, le-ltb}
+use Rattle.std.specs.Prelude.{Option, Some, None}
 use Rattle.wal_types.specs.Memory.{Memory}
 use Rattle.wal_types.specs.Call.{none, Pair, pair}
-use Rattle.index_hash.specs.declared.Probe.{Probe}
 use Rattle.index_hash.specs.Block.{probe, looked}
 use Rattle.index_hash.specs.InnerLatest.{latest_below}
 use Rattle.index_hash.proofs.Latest.{latest_here, latest_other}
 use Rattle.index_hash.proofs.Lookup.{lookup}
 use Rattle.index_hash.proofs.Looked.{looked_le}
-use Rattle.index_find.specs.declared.find.Watermark.TheVariants.{UpTo, NoWatermark}
-use Rattle.index_find.specs.declared.find.Lookup.{Lookup}
-use Rattle.index_find.specs.declared.find.Lookup.TheVariants.{Frame, NoFrame}
 use Rattle.index_find.specs.Index.{block_cells_of, block_pages_of}
 use Rattle.index_find.specs.Find.{visible, probe_block, looked_up, else_look, find_in, blocks_for, lookup_answer, find_answer}
 use Rattle.index_find.proofs.Blocks.{block_page}
@@ -27,15 +24,15 @@ use Rattle.index_grown.proofs.Entries.{entry, entries_next, entries_each, entrie
 use Rattle.index_grown.proofs.Visible.{visible_counts}
 
 -- a greater frame is the higher
-higher_here : (r : Lookup) (f : ℕ) → ((g : ℕ) → r ≡ Frame g → g ≤ f) → higher r (Frame f) ≡ Frame f
-higher_here (Frame g) f most = let l = most g refl in let e : max g f ≡ f = omega arith in ap Frame e
-higher_here NoFrame f most = refl
+higher_here : (r : Option ℕ) (f : ℕ) → ((g : ℕ) → r ≡ Some g → g ≤ f) → higher r (Some f) ≡ Some f
+higher_here (Some g) f most = let l = most g refl in let e : max g f ≡ f = omega arith in ap Some e
+higher_here None f most = refl
 
 module _ (ps fs : List ℕ) (page low high : ℕ) where
-  abbrev best : ℕ → Lookup
+  abbrev best : ℕ → Option ℕ
   best n = greatest (entries_of n ps fs) page low high
 
-  best_none : best 0 ≡ NoFrame
+  best_none : best 0 ≡ None
   unfolding greatest entries_of
   best_none = refl
 
@@ -44,15 +41,15 @@ module _ (ps fs : List ℕ) (page low high : ℕ) where
   best_next n = ap (λ (l : List Pair). greatest l page low high) (entries_next ps fs n) ∙ greatest_more page low high (entries_of n ps fs) (entry ps fs n)
 
   -- an entry that gives no frame changes nothing
-  best_same : (n : ℕ) → frame_in page low high (entry ps fs n) ≡ NoFrame → best (suc n) ≡ best n
+  best_same : (n : ℕ) → frame_in page low high (entry ps fs n) ≡ None → best (suc n) ≡ best n
   best_same n e = best_next n ∙ (ap (higher (best n)) e ∙ higher_none (best n))
 
   -- frames below the lower bound give none
-  best_below : (n : ℕ) → ((i : ℕ) → i < n → get_or fs i 0 < low) → best n ≡ NoFrame
-  best_below n all = greatest_none page low high (entries_of n ps fs) (entries_each ps fs (λ q. frame_in page low high q ≡ NoFrame) n (λ i l. frame_below page low high (entry ps fs i) (all i l)))
+  best_below : (n : ℕ) → ((i : ℕ) → i < n → get_or fs i 0 < low) → best n ≡ None
+  best_below n all = greatest_none page low high (entries_of n ps fs) (entries_each ps fs (λ q. frame_in page low high q ≡ None) n (λ i l. frame_below page low high (entry ps fs i) (all i l)))
 
   -- a frame given is that of some entry
-  best_is : (n f : ℕ) → best n ≡ Frame f → (i : ℕ) × ((i < n) × (f ≡ get_or fs i 0))
+  best_is : (n f : ℕ) → best n ≡ Some f → (i : ℕ) × ((i < n) × (f ≡ get_or fs i 0))
   best_is n f e =
       let is = subst (IsGreatest (entries_of n ps fs) page low high) e (greatest_is page low high (entries_of n ps fs)) in
       let r = entries_member ps fs n (pair page f) is.0 in
@@ -70,7 +67,7 @@ module _ (ps fs : List ℕ) (page low high : ℕ) where
     abbrev base : ℕ
     base = 4096 * k
 
-    abbrev answer : ℕ → Lookup
+    abbrev answer : ℕ → Option ℕ
     answer r = else_look (looked_up k fs low high (latest_below bp page r)) (best base)
 
     in_block : (r : ℕ) → base + r ≤ v → ((i : ℕ) → i < r → get_or bp i 0 ≡ get_or ps (base + i) 0) → answer r ≡ best (base + r)
@@ -83,17 +80,17 @@ module _ (ps fs : List ℕ) (page low high : ℕ) where
 
         go : answer r ≡ best (base + r) → Dec (get_or bp r 0 ≡ page) → Dec (low ≤ get_or fs (base + r) 0) → answer (suc r) ≡ best (suc (base + r))
         go ih (no o) d =
-            ap (λ (x : Probe). else_look (looked_up k fs low high x) (best base)) (latest_other bp page r o)
+            ap (λ (x : Option ℕ). else_look (looked_up k fs low high x) (best base)) (latest_other bp page r o)
             ∙ (ih ∙ sym (best_same (base + r) (frame_other page low high (entry ps fs (base + r)) (λ q. o (same r (omega arith) ∙ q)))))
         go ih (yes o) (yes d) =
             let u = visible_all (base + r) (omega arith) in
             let here = frame_here page low high (entry ps fs (base + r)) (sym (same r (omega arith)) ∙ o) d u in
-            ap (λ (x : Probe). else_look (looked_up k fs low high x) (best base)) (latest_here bp page r o)
+            ap (λ (x : Option ℕ). else_look (looked_up k fs low high x) (best base)) (latest_here bp page r o)
             ∙ (rw (le-leb _ _ d, le-leb _ _ u)
             (sym (best_next (base + r) ∙ (ap (higher (best (base + r))) here ∙ higher_here (best (base + r)) (get_or fs (base + r) 0) (λ g q. let i = best_is (base + r) g q in omega (arith, i.1.1, rise i.0 (base + r) i.1.0 (omega arith)))))))
         go ih (yes o) (no d) =
             let below : (i : ℕ) → i < suc (base + r) → get_or fs i 0 < low = λ i b. omega (arith, rises_to v fs rise i (base + r) (omega arith) (omega arith)) in
-            ap (λ (x : Probe). else_look (looked_up k fs low high x) (best base)) (latest_here bp page r o)
+            ap (λ (x : Option ℕ). else_look (looked_up k fs low high x) (best base)) (latest_here bp page r o)
             ∙ (rw (lt-leb low (get_or fs (base + r) 0) (omega arith))
             (best_below base (λ i b. below i (omega arith)) ∙ sym (best_below (suc (base + r)) below)))
 
@@ -136,18 +133,18 @@ module _ (capacity b : ℕ) (m : Memory) (grown : Grown capacity b m) where
       ∙ visible_best m.pages m.frames page low high len grown.frames_rise
 
   -- THE LOOKUP LAW: a lookup gives the greatest frame of the page within the bounds, or none
-  pub lookup_gives : (page low high : ℕ) → find_answer page low high NoWatermark m ≡ lookup_answer (greatest (entries m) page low high)
+  pub lookup_gives : (page low high : ℕ) → find_answer page low high None m ≡ lookup_answer (greatest (entries m) page low high)
   lookup_gives page low high = go (dec_le low high)
     where
-      go : Dec (low ≤ high) → find_answer page low high NoWatermark m ≡ lookup_answer (greatest (entries m) page low high)
+      go : Dec (low ≤ high) → find_answer page low high None m ≡ lookup_answer (greatest (entries m) page low high)
       go (yes l) = rw (le-ltb high low l) (ap lookup_answer (find_greatest page low high))
       go (no l) = rw (lt-ltb high low (omega arith), greatest_crossed page low high (omega arith) (entries m))
 
   -- with a watermark: none if it is below min, else the greatest frame of the page up to it
-  pub lookup_below : (page low high w : ℕ) → w < low → find_answer page low high (UpTo w) m ≡ none
+  pub lookup_below : (page low high w : ℕ) → w < low → find_answer page low high (Some w) m ≡ none
   lookup_below page low high w l = rw (lt-ltb w low l)
 
-  pub lookup_watermark : (page low high w : ℕ) → low ≤ w → find_answer page low high (UpTo w) m ≡ lookup_answer (greatest (entries m) page 0 w)
+  pub lookup_watermark : (page low high w : ℕ) → low ≤ w → find_answer page low high (Some w) m ≡ lookup_answer (greatest (entries m) page 0 w)
   lookup_watermark page low high w l = rw (le-ltb w low l) (ap lookup_answer (find_greatest page 0 w))
 
   -- CELLS LOOKED AT: at most 4,097 in each block that has an entry

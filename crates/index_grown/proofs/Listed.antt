@@ -10,12 +10,12 @@ use native.Mathlib.Omega.{arith}
 use lib.Dec.{eqb}
 use lib.ListN.{length, get_or}
 use borrow.Author.Tests.{eq-eqb, le-leb, lt-leb}
+use Rattle.std.specs.Prelude.{Some}
 use Rattle.wal_types.specs.Memory.{Memory}
 use Rattle.wal_types.specs.Call.{Pair, pair}
 use Rattle.index_hash.specs.Block.{built}
 use Rattle.index_hash.proofs.Built.{built_length}
 use Rattle.index_hash.proofs.Used.{built_named}
-use Rattle.index_find.specs.declared.find.Lookup.TheVariants.{Frame}
 use Rattle.index_find.specs.Index.{block_of, block_pages_of}
 use Rattle.index_find.specs.Find.{visible}
 use Rattle.list_gather.specs.Named.{has_cell, named}
@@ -135,13 +135,13 @@ module _ (capacity b : ℕ) (m : Memory) (grown : Grown capacity b m) (low high 
       go (no s) = absurd (omega (arith, counted.past_top i (omega arith) l))
 
   -- an entry that is listed has its page's greatest frame
-  listed_greatest : (t : ℕ) → In t (listed_entries low high m) → greatest (entries m) (get_or ps t 0) low high ≡ Frame (get_or fs t 0)
+  listed_greatest : (t : ℕ) → In t (listed_entries low high m) → greatest (entries m) (get_or ps t 0) low high ≡ Some (get_or fs t 0)
   listed_greatest t i =
       let k = bounds_only fs low high (latest ps m.hash v) t i in
       let s = latest_below ps m.hash v t k.0 in
       let c = counted.within in
       sym
-      (greatest_only (get_or ps t 0) low high (entries m) (Frame (get_or fs t 0))
+      (greatest_only (get_or ps t 0) low high (entries m) (Some (get_or fs t 0))
       (entries_has ps fs len t (omega arith), (k.1.0, (k.1.1, λ g j a b. most g k.0 s (entries_member ps fs len (pair (get_or ps t 0) g) j) b))))
     where
       most : (g : ℕ) → In t (latest ps m.hash v) → t < v → (i : ℕ) × ((i < len) × (pair (get_or ps t 0) g ≡ entry ps fs i)) → g ≤ high → g ≤ get_or fs t 0
@@ -157,13 +157,13 @@ module _ (capacity b : ℕ) (m : Memory) (grown : Grown capacity b m) (low high 
               (latest_last ps m.hash v t k i.0 (omega arith) (seen i.0 i.1.0 (omega (arith, same_frame))) (all i.0 i.1.0) (sym (ap (λ (q : Pair). q.page) i.1.1)))
 
   -- and an entry with its page's greatest frame is listed
-  greatest_listed : (page f : ℕ) → greatest (entries m) page low high ≡ Frame f → Memᴰ (pair page f) (pairs_of m (listed_entries low high m))
+  greatest_listed : (page f : ℕ) → greatest (entries m) page low high ≡ Some f → Memᴰ (pair page f) (pairs_of m (listed_entries low high m))
   greatest_listed page f e =
       let is = subst (IsGreatest (entries m) page low high) e (greatest_is page low high (entries m)) in
       let i = entries_member ps fs len (pair page f) is.0 in
       Memᴰ.cast i.1.1 (pairs_every ps fs (listed_entries low high m) i.0 (go is i))
     where
-      go : IsGreatest (entries m) page low high (Frame f) → (i : (i : ℕ) × ((i < len) × (pair page f ≡ entry ps fs i))) → In i.0 (listed_entries low high m)
+      go : IsGreatest (entries m) page low high (Some f) → (i : (i : ℕ) × ((i < len) × (pair page f ≡ entry ps fs i))) → In i.0 (listed_entries low high m)
       go is i =
           bounds_every fs low high (latest ps m.hash v) i.0 (subst (λ (x : ℕ). In x (latest ps m.hash v)) same has.listed) (omega (arith, f_is, is.1.0)) (omega (arith, f_is, is.1.1.0))
         where
@@ -203,6 +203,6 @@ module _ (capacity b : ℕ) (m : Memory) (grown : Grown capacity b m) (low high 
         rises = pairs_rise ps fs 0 (λ n i. omega arith) (bounds_rise fs low high ps (latest_rises ps m.hash v));
         only = λ page f i.
             let r = pairs_only ps fs (listed_entries low high m) (pair page f) i in
-            subst (λ (q : Pair). greatest (entries m) q.page low high ≡ Frame q.frame) (sym r.1.1) (listed_greatest r.0 r.1.0);
+            subst (λ (q : Pair). greatest (entries m) q.page low high ≡ Some q.frame) (sym r.1.1) (listed_greatest r.0 r.1.0);
         every = greatest_listed;
       }

@@ -9,9 +9,8 @@ use native.Mathlib.Decide.{dec_le}
 use native.Mathlib.Omega.{arith}
 use lib.Dec.{eqb, leb}
 use borrow.Author.Tests.{eq-eqb, ne_eqb, le-leb, lt-leb, eqb-true, leb-true}
+use Rattle.std.specs.Prelude.{Option, Some, None}
 use Rattle.wal_types.specs.Call.{Pair, pair}
-use Rattle.index_find.specs.declared.find.Lookup.{Lookup}
-use Rattle.index_find.specs.declared.find.Lookup.TheVariants.{Frame, NoFrame}
 use Rattle.index_grown.specs.Entries.{before_kept, taken_off, up_to, higher, frame_in, greatest}
 
 -- each pair of a list has it
@@ -19,44 +18,44 @@ abbrev pub Each : (Pair → Type 0) → List Pair → Type 0
 Each P l = (q : Pair) → Memᴰ q l → P q
 
 -- the greater of frames
-pub higher_none : (r : Lookup) → higher r NoFrame ≡ r
-higher_none (Frame f) = refl
-higher_none NoFrame = refl
+pub higher_none : (r : Option ℕ) → higher r None ≡ r
+higher_none (Some f) = refl
+higher_none None = refl
 
-pub higher_assoc : (r s t : Lookup) → higher (higher r s) t ≡ higher r (higher s t)
-higher_assoc (Frame f) (Frame g) (Frame h) = let e : max (max f g) h ≡ max f (max g h) = omega arith in ap Frame e
-higher_assoc (Frame f) (Frame g) NoFrame = refl
-higher_assoc (Frame f) NoFrame t = refl
-higher_assoc NoFrame s t = refl
+pub higher_assoc : (r s t : Option ℕ) → higher (higher r s) t ≡ higher r (higher s t)
+higher_assoc (Some f) (Some g) (Some h) = let e : max (max f g) h ≡ max f (max g h) = omega arith in ap Some e
+higher_assoc (Some f) (Some g) None = refl
+higher_assoc (Some f) None t = refl
+higher_assoc None s t = refl
 
 -- a pair of another page, or out of bounds, gives no frame; else it gives its own
 module _ (page low high : ℕ) (q : Pair) where
-  pub frame_other : (q.page ≡ page → ⊥) → frame_in page low high q ≡ NoFrame
+  pub frame_other : (q.page ≡ page → ⊥) → frame_in page low high q ≡ None
   frame_other o = rw (ne_eqb _ _ o)
 
-  pub frame_below : q.frame < low → frame_in page low high q ≡ NoFrame
+  pub frame_below : q.frame < low → frame_in page low high q ≡ None
   frame_below l = rw (lt-leb _ _ l) (go (eqb q.page page))
     where
-      go : (t : Bool) → cond (t && false) (Frame q.frame) NoFrame ≡ NoFrame
+      go : (t : Bool) → cond (t && false) (Some q.frame) None ≡ None
       go true = refl
       go false = refl
 
-  pub frame_above : high < q.frame → frame_in page low high q ≡ NoFrame
+  pub frame_above : high < q.frame → frame_in page low high q ≡ None
   frame_above l = rw (lt-leb _ _ l) (go (eqb q.page page) (leb low q.frame))
     where
-      go : (t u : Bool) → cond (t && (u && false)) (Frame q.frame) NoFrame ≡ NoFrame
+      go : (t u : Bool) → cond (t && (u && false)) (Some q.frame) None ≡ None
       go true true = refl
       go true false = refl
       go false u = refl
 
-  pub frame_here : q.page ≡ page → low ≤ q.frame → q.frame ≤ high → frame_in page low high q ≡ Frame q.frame
+  pub frame_here : q.page ≡ page → low ≤ q.frame → q.frame ≤ high → frame_in page low high q ≡ Some q.frame
   frame_here e l u = rw (eq-eqb _ _ e, le-leb _ _ l, le-leb _ _ u)
 
   -- what a frame that is given tells
-  pub frame_given : (f : ℕ) → frame_in page low high q ≡ Frame f → (q.page ≡ page) × ((q.frame ≡ f) × ((low ≤ f) × (f ≤ high)))
+  pub frame_given : (f : ℕ) → frame_in page low high q ≡ Some f → (q.page ≡ page) × ((q.frame ≡ f) × ((low ≤ f) × (f ≤ high)))
   frame_given f e = go (eqb q.page page) (leb low q.frame) (leb q.frame high) refl refl refl e
     where
-      go : (t u v : Bool) → eqb q.page page ≡ t → leb low q.frame ≡ u → leb q.frame high ≡ v → cond (t && (u && v)) (Frame q.frame) NoFrame ≡ Frame f
+      go : (t u v : Bool) → eqb q.page page ≡ t → leb low q.frame ≡ u → leb q.frame high ≡ v → cond (t && (u && v)) (Some q.frame) None ≡ Some f
           → (q.page ≡ page) × ((q.frame ≡ f) × ((low ≤ f) × (f ≤ high)))
       go true true true et eu ev e =
           let s : q.frame ≡ f = cc in
@@ -80,7 +79,7 @@ module _ (page low high : ℕ) where
   greatest_more l q = greatest_append l (q ∷ []) ∙ ap (higher (greatest l page low high)) (higher_none (frame_in page low high q))
 
   -- pairs that give no frame have no greatest
-  pub greatest_none : (l : List Pair) → Each (λ q. frame_in page low high q ≡ NoFrame) l → greatest l page low high ≡ NoFrame
+  pub greatest_none : (l : List Pair) → Each (λ q. frame_in page low high q ≡ None) l → greatest l page low high ≡ None
   unfolding greatest
   greatest_none [] none = refl
   greatest_none (q ∷ l) none = rw (none q (Memᴰ.head refl)) (greatest_none l (λ r m. none r (Memᴰ.tail m)))
@@ -91,10 +90,10 @@ module _ (page low high : ℕ) where
       greatest_append es more ∙ (ap (higher (greatest es page low high)) (greatest_none more (λ q m. frame_above page low high q (above q m))) ∙ higher_none (greatest es page low high))
 
   -- bounds in the wrong order: none
-  pub greatest_crossed : high < low → (l : List Pair) → greatest l page low high ≡ NoFrame
+  pub greatest_crossed : high < low → (l : List Pair) → greatest l page low high ≡ None
   greatest_crossed c l = greatest_none l (λ q m. go q (dec_le low q.frame))
     where
-      go : (q : Pair) → Dec (low ≤ q.frame) → frame_in page low high q ≡ NoFrame
+      go : (q : Pair) → Dec (low ≤ q.frame) → frame_in page low high q ≡ None
       go q (yes a) = frame_above page low high q (omega arith)
       go q (no a) = frame_below page low high q (omega arith)
 
@@ -104,7 +103,7 @@ module _ (page low high : ℕ) where
   greatest_taken bound h [] = refl
   greatest_taken bound h (q ∷ l) = go (taken_off bound l) (greatest_taken bound h l)
     where
-      one : Dec (q.frame ≤ bound) → greatest (cond (leb q.frame bound) (q ∷ []) []) page low high ≡ higher (frame_in page low high q) NoFrame
+      one : Dec (q.frame ≤ bound) → greatest (cond (leb q.frame bound) (q ∷ []) []) page low high ≡ higher (frame_in page low high q) None
       one (yes l) = rw (le-leb _ _ l)
       one (no l) = rw (lt-leb q.frame bound (omega arith), frame_above page low high q (omega arith))
 
@@ -199,17 +198,17 @@ up_to_twice a b (q ∷ l) = go (up_to_twice a b l) (dec_le q.frame a) (dec_le q.
     go ih (no c) d = rw (lt-leb q.frame a (omega arith), lt-leb q.frame (min a b) (omega arith)) ih
 
 -- WHAT greatest MEANS: a frame of the page within the bounds, with no greater one; or there is none
-abbrev pub IsGreatest : List Pair → ℕ → ℕ → ℕ → Lookup → Type 0
-IsGreatest l page low high (Frame f) =
+abbrev pub IsGreatest : List Pair → ℕ → ℕ → ℕ → Option ℕ → Type 0
+IsGreatest l page low high (Some f) =
     Memᴰ (pair page f) l × ((low ≤ f) × ((f ≤ high) × ((g : ℕ) → Memᴰ (pair page g) l → low ≤ g → g ≤ high → g ≤ f)))
-IsGreatest l page low high NoFrame = (g : ℕ) → Memᴰ (pair page g) l → low ≤ g → g ≤ high → ⊥
+IsGreatest l page low high None = (g : ℕ) → Memᴰ (pair page g) l → low ≤ g → g ≤ high → ⊥
 
 -- a pair by its page and frame
 pub here : (page low high : ℕ) (q : Pair) (f : ℕ) → (q.page ≡ page) × ((q.frame ≡ f) × ((low ≤ f) × (f ≤ high))) → pair page f ≡ q
 here page low high q f given = sym (ap₂ pair given.0 given.1.0)
 
 -- a pair that gives no frame is not of the page within the bounds
-pub not_here : (page low high : ℕ) (q : Pair) (h : ℕ) → frame_in page low high q ≡ NoFrame → pair page h ≡ q → low ≤ h → h ≤ high → ⊥
+pub not_here : (page low high : ℕ) (q : Pair) (h : ℕ) → frame_in page low high q ≡ None → pair page h ≡ q → low ≤ h → h ≤ high → ⊥
 not_here page low high q h e s c d =
     let a : page ≡ q.page = ap (λ (x : Pair). x.page) s in
     let b : h ≡ q.frame = ap (λ (x : Pair). x.frame) s in
@@ -219,8 +218,8 @@ not_here page low high q h e s c d =
 
 module _ (page low high : ℕ) where
   -- a list's first pair, by what it gives, and the rest
-  with_first : (q : Pair) (l : List Pair) (x r : Lookup) → frame_in page low high q ≡ x → IsGreatest l page low high r → IsGreatest (q ∷ l) page low high (higher x r)
-  with_first q l (Frame f) (Frame g) e is =
+  with_first : (q : Pair) (l : List Pair) (x r : Option ℕ) → frame_in page low high q ≡ x → IsGreatest l page low high r → IsGreatest (q ∷ l) page low high (higher x r)
+  with_first q l (Some f) (Some g) e is =
       let given = frame_given page low high q f e in
       go given (dec_le f g)
     where
@@ -231,14 +230,14 @@ module _ (page low high : ℕ) where
             | inr s ↦ omega (arith, is.1.1.1 h s c d)
           ]
 
-      go : (q.page ≡ page) × ((q.frame ≡ f) × ((low ≤ f) × (f ≤ high))) → Dec (f ≤ g) → IsGreatest (q ∷ l) page low high (Frame (max f g))
+      go : (q.page ≡ page) × ((q.frame ≡ f) × ((low ≤ f) × (f ≤ high))) → Dec (f ≤ g) → IsGreatest (q ∷ l) page low high (Some (max f g))
       go given (yes a) =
           let s : max f g ≡ g = omega arith in
           rw s (Memᴰ.tail is.0, (is.1.0, (is.1.1.0, others g a (omega arith))))
       go given (no a) =
           let s : max f g ≡ f = omega arith in
           rw s (Memᴰ.head (here page low high q f given), (given.1.1.0, (given.1.1.1, others f (omega arith) (omega arith))))
-  with_first q l (Frame f) NoFrame e none =
+  with_first q l (Some f) None e none =
       let given = frame_given page low high q f e in
       (Memᴰ.head (here page low high q f given), (given.1.1.0, (given.1.1.1, others)))
     where
@@ -248,7 +247,7 @@ module _ (page low high : ℕ) where
             | inl s ↦ let t : h ≡ f = ap (λ (x : Pair). x.frame) s ∙ (frame_given page low high q f e).1.0 in omega arith
             | inr s ↦ absurd (none h s c d)
           ]
-  with_first q l NoFrame (Frame g) e is =
+  with_first q l None (Some g) e is =
       (Memᴰ.tail is.0, (is.1.0, (is.1.1.0, others)))
     where
       others : (h : ℕ) → Memᴰ (pair page h) (q ∷ l) → low ≤ h → h ≤ high → h ≤ g
@@ -257,7 +256,7 @@ module _ (page low high : ℕ) where
             | inl s ↦ absurd (not_here page low high q h e s c d)
             | inr s ↦ is.1.1.1 h s c d
           ]
-  with_first q l NoFrame NoFrame e none = λ h m c d.
+  with_first q l None None e none = λ h m c d.
       elim (Memᴰ.cases_cons m) [
         | inl s ↦ not_here page low high q h e s c d
         | inr s ↦ none h s c d
@@ -269,13 +268,13 @@ module _ (page low high : ℕ) where
   greatest_is (q ∷ l) = with_first q l (frame_in page low high q) (greatest l page low high) refl (greatest_is l)
 
   -- and nothing else is
-  pub greatest_only : (l : List Pair) (r : Lookup) → IsGreatest l page low high r → r ≡ greatest l page low high
+  pub greatest_only : (l : List Pair) (r : Option ℕ) → IsGreatest l page low high r → r ≡ greatest l page low high
   greatest_only l r is = go r (greatest l page low high) is (greatest_is l)
     where
-      go : (r s : Lookup) → IsGreatest l page low high r → IsGreatest l page low high s → r ≡ s
-      go (Frame f) (Frame g) a b =
+      go : (r s : Option ℕ) → IsGreatest l page low high r → IsGreatest l page low high s → r ≡ s
+      go (Some f) (Some g) a b =
           let e : f ≡ g = omega (arith, a.1.1.1 g b.0 b.1.0 b.1.1.0, b.1.1.1 f a.0 a.1.0 a.1.1.0) in
-          ap Frame e
-      go (Frame f) NoFrame a b = absurd (b f a.0 a.1.0 a.1.1.0)
-      go NoFrame (Frame g) a b = absurd (a g b.0 b.1.0 b.1.1.0)
-      go NoFrame NoFrame a b = refl
+          ap Some e
+      go (Some f) None a b = absurd (b f a.0 a.1.0 a.1.1.0)
+      go None (Some g) a b = absurd (a g b.0 b.1.0 b.1.1.0)
+      go None None a b = refl

@@ -3,11 +3,9 @@ use mathlib.Core.Bool.{Bool, true, false, cond}
 use Prim.Native.Nat.{ℕ, zero, suc, ◌+◌, ◌-◌, ◌*◌, ◌≤◌, min}
 use native.Mathlib.Omega.{arith}
 use lib.Dec.{eqb, ltb}
+use Rattle.std.specs.Prelude.{Option, Some, None}
 use Rattle.wal_types.specs.Memory.{Memory}
 use Rattle.wal_types.specs.Refusal.{lowest}
-use Rattle.index_find.specs.declared.find.Watermark.{Watermark}
-use Rattle.index_find.specs.declared.find.Lookup.{Lookup}
-use Rattle.index_find.specs.declared.find.Lookup.TheVariants.{Frame, NoFrame}
 use Rattle.index_find.specs.Index.{index_tests}
 use Rattle.index_find.specs.Find.{visible, probe_block, looked_block, looked_up, if_none, summed_in, blocks_for, upper, lower, looked_answer, find_looked}
 use Rattle.index_grown.specs.Grown.{Grown}
@@ -17,13 +15,13 @@ use Rattle.index_grown.proofs.Visible.{visible_counts}
 use Rattle.index_grown.proofs.Grows.{grown_from}
 
 -- one block more
-summed_next : (r : Lookup) (one looked blocks : ℕ) → one ≤ 4097 → looked ≤ 4097 * blocks → one + if_none r looked ≤ 4097 * (1 + if_none r blocks)
-summed_next (Frame f) one looked blocks o l = omega arith
-summed_next NoFrame one looked blocks o l = omega arith
+summed_next : (r : Option ℕ) (one looked blocks : ℕ) → one ≤ 4097 → looked ≤ 4097 * blocks → one + if_none r looked ≤ 4097 * (1 + if_none r blocks)
+summed_next (Some f) one looked blocks o l = omega arith
+summed_next None one looked blocks o l = omega arith
 
-one_more : (r : Lookup) (blocks k : ℕ) → blocks ≤ k → 1 + if_none r blocks ≤ suc k
-one_more (Frame f) blocks k l = omega arith
-one_more NoFrame blocks k l = omega arith
+one_more : (r : Option ℕ) (blocks k : ℕ) → blocks ≤ k → 1 + if_none r blocks ≤ suc k
+one_more (Some f) blocks k l = omega arith
+one_more None blocks k l = omega arith
 
 -- where a test says that nothing is summed
 unless_empty : (t : Bool) (c x y : ℕ) → x ≤ c * y → cond t 0 x ≤ c * cond t 0 y
@@ -43,7 +41,7 @@ module _ (capacity b : ℕ) (m : Memory) (grown : Grown capacity b m) where
     abbrev sum : (ℕ → ℕ) → ℕ → ℕ
     sum of_block k = summed_in of_block k v m.pages m.frames m.hash page low high
 
-    abbrev here : ℕ → Lookup
+    abbrev here : ℕ → Option ℕ
     here k = looked_up k m.frames low high (probe_block k page v m.pages m.hash)
 
     blocks_bound : (k : ℕ) → k ≤ blocks_for v → sum (λ i. looked_block i page v m.hash) k ≤ 4097 * sum (λ i. 1) k
@@ -56,7 +54,7 @@ module _ (capacity b : ℕ) (m : Memory) (grown : Grown capacity b m) where
     blocks_most zero = omega arith
     blocks_most (suc k) = one_more (here k) _ k (blocks_most k)
 
-  module _ (page low high : ℕ) (w : Watermark) where
+  module _ (page low high : ℕ) (w : Option ℕ) where
     abbrev seen : ℕ
     seen = visible m.frames m.header.frame_index_len (upper high w)
 

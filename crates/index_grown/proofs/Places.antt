@@ -15,7 +15,7 @@ use Rattle.wal_types.specs.Memory.{frame_index_len_cell, frame_index_overflowed_
 use Rattle.index_hash.specs.Block.{cleared, inserted, built}
 use Rattle.index_hash.proofs.Built.{built_none, built_next}
 use Rattle.index_end.specs.declared.cells.IndexCells.{IndexCells}
-use Rattle.index_end.specs.declared.place.Place.TheVariants.{AtEnd, NoPlace}
+use Rattle.std.specs.Prelude.{Some, None}
 use Rattle.index_find.specs.Index.{block_of, place_of, block_pages_of}
 use Rattle.index_end.specs.Cells.{cells_of, cells_with}
 use Rattle.index_end.specs.Place.{resets, started, blocks_full, placed, out_of_order}
@@ -50,7 +50,7 @@ pub record AtEndOf (capacity b : ℕ) (s g : IndexCells) : Type 0 where
   pub in_limit : g.frame_index_blocks ≤ b
 
 at_end_by : (capacity b : ℕ) (grow : Bool) (s g : IndexCells) (full no_more beyond : Bool) → leb capacity s.frame_index_len ≡ beyond → blocks_full s ≡ full → leb b s.frame_index_blocks ≡ no_more
-    → cond (beyond || (full && (no_more || not grow))) NoPlace (AtEnd (cond full (cells_with frame_index_blocks_cell (s.frame_index_blocks + 1) s) s)) ≡ AtEnd g
+    → cond (beyond || (full && (no_more || not grow))) None (Some (cond full (cells_with frame_index_blocks_cell (s.frame_index_blocks + 1) s) s)) ≡ Some g
     → s.frame_index_len ≤ 4096 * s.frame_index_blocks → s.frame_index_blocks ≤ b
     → AtEndOf capacity b s g
 at_end_by capacity b grow s g full no_more true l f n e i j = let z : ◌≡◌ {A = ℕ} 0 1 = cc in absurd (omega arith)
@@ -71,7 +71,7 @@ at_end_by capacity b grow s g false no_more false l f n e i j =
     let room = leb-false (entries_for s.frame_index_blocks) s.frame_index_len f in
     record { same_len = sym r; below_capacity = omega arith; below_blocks = omega arith; in_limit = omega arith }
 
-pub at_end_of : (capacity b : ℕ) (grow : Bool) (s g : IndexCells) → placed capacity b grow s ≡ AtEnd g → s.frame_index_len ≤ 4096 * s.frame_index_blocks → s.frame_index_blocks ≤ b → AtEndOf capacity b s g
+pub at_end_of : (capacity b : ℕ) (grow : Bool) (s g : IndexCells) → placed capacity b grow s ≡ Some g → s.frame_index_len ≤ 4096 * s.frame_index_blocks → s.frame_index_blocks ≤ b → AtEndOf capacity b s g
 unfolding placed
 at_end_of capacity b grow s g e i j = at_end_by capacity b grow s g _ _ _ refl refl refl e i j
 

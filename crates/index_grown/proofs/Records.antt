@@ -9,18 +9,15 @@ use native.Mathlib.Nat.{eq-or-lt_of_le}
 use native.Mathlib.Omega.{arith}
 use lib.ListN.{length, get_or, set, length-set}
 use lib.Seq.{get_or-set_same, get_or-set_other}
+use Rattle.std.specs.Prelude.{Option, Some, None}
 use Rattle.wal_types.specs.declared.Header.{Header}
 use Rattle.wal_types.specs.Memory.{Memory, Process, frame_index_len_cell, frame_index_overflowed_cell}
 use Rattle.wal_types.specs.Call.{Pair, pair, refused, stored, dropped, Done, done, after}
-use Rattle.index_hash.specs.declared.Cell.{Cell}
-use Rattle.index_hash.specs.declared.Cell.TheVariants.{Empty, Full}
 use Rattle.index_hash.specs.Block.{empty_cell, inserted, built}
 use Rattle.index_hash.proofs.Empty.{inserted_at}
 use Rattle.index_hash.proofs.Built.{built_length}
 use Rattle.index_hash.proofs.Used.{never_full}
 use Rattle.index_end.specs.declared.cells.IndexCells.{IndexCells}
-use Rattle.index_end.specs.declared.place.Place.{Place}
-use Rattle.index_end.specs.declared.place.Place.TheVariants.{AtEnd, NoPlace}
 use Rattle.index_find.specs.Index.{bad_settings, short_index, index_refusal, block_of, place_of, block_cells_of, block_pages_of, with_block, index_in}
 use Rattle.index_end.specs.Cells.{cells_with, with_cells}
 use Rattle.index_end.specs.Place.{started, placed, out_of_order}
@@ -64,7 +61,7 @@ module _ (capacity b page frame : ℕ) (grow : Bool) (m : Memory) (p : Process) 
   number_of = index_refusal capacity b h (length m.pages) (length m.frames) (length m.hash)
 
   -- an entry at the end, above the last frame
-  module _ (g : IndexCells) (at_end : placed capacity b grow (started frame h) ≡ AtEnd g) where
+  module _ (g : IndexCells) (at_end : placed capacity b grow (started frame h) ≡ Some g) where
     abbrev n : ℕ
     n = g.frame_index_len
 
@@ -97,7 +94,7 @@ module _ (capacity b page frame : ℕ) (grow : Bool) (m : Memory) (p : Process) 
             grown.blocks_built (block_of n) (omega arith) ∙ ap (built (block_pages_of (block_of n) m.pages)) c
 
     -- it always finds an empty cell
-    pub never_four : (place_of n ≡ 0 → ⊥) → empty_cell (block_cells_of (block_of n) m.hash) page ≡ Full → ⊥
+    pub never_four : (place_of n ≡ 0 → ⊥) → empty_cell (block_cells_of (block_of n) m.hash) page ≡ None → ⊥
     never_four o e = never_full (block_pages_of (block_of n) m.pages) (place_of n) page (omega arith) (ap (λ (x : List ℕ). empty_cell x page) (sym (follows o)) ∙ e)
 
     module _ (passed : number_of ≡ 0) (in_order : out_of_order frame n m.frames ≡ false) where
@@ -108,9 +105,9 @@ module _ (capacity b page frame : ℕ) (grow : Bool) (m : Memory) (p : Process) 
           fits : 8192 * (n / 4096) + 8192 ≤ length m.hash
           fits = room.1.1.1.1
 
-          next : (c : Cell) → empty_cell (block_cells_of (block_of n) m.hash) page ≡ c → (place_of n ≡ 0 → ⊥) → call_done ≡ done stored (with_entry page frame m g) p
-          next Full e o = absurd (never_four o e)
-          next (Empty c) e o =
+          next : (c : Option ℕ) → empty_cell (block_cells_of (block_of n) m.hash) page ≡ c → (place_of n ≡ 0 → ⊥) → call_done ≡ done stored (with_entry page frame m g) p
+          next None e o = absurd (never_four o e)
+          next (Some c) e o =
               record_next capacity b page frame grow m h m.pages m.frames m.hash p passed g at_end c in_order o fits e
               ∙ ap (λ (cells : List ℕ). done stored (index_in m (with_cells (cells_with frame_index_len_cell (n + 1) g) h) (set m.pages n page) (set m.frames n frame) (with_block (block_of n) cells m.hash)) p)
               (sym (inserted_at (block_cells_of (block_of n) m.hash) (place_of n) page c e)
@@ -174,19 +171,19 @@ module _ (capacity b page frame : ℕ) (grow : Bool) (m : Memory) (p : Process) 
 
   -- BY CASES: a record is refused, never with 4, and changes nothing; or dropped; or stored at the end
   pub record_cases : (P : Done → Type 0) → ((n : ℕ) → (n ≡ 4 → ⊥) → P (done (refused n) m p))
-      → (number_of ≡ 0 → placed capacity b grow (started frame h) ≡ NoPlace → P (done dropped (with_drop frame m) p))
-      → ((g : IndexCells) → number_of ≡ 0 → placed capacity b grow (started frame h) ≡ AtEnd g → out_of_order frame g.frame_index_len m.frames ≡ false → P (done stored (with_entry page frame m g) p))
+      → (number_of ≡ 0 → placed capacity b grow (started frame h) ≡ None → P (done dropped (with_drop frame m) p))
+      → ((g : IndexCells) → number_of ≡ 0 → placed capacity b grow (started frame h) ≡ Some g → out_of_order frame g.frame_index_len m.frames ≡ false → P (done stored (with_entry page frame m g) p))
       → P call_done
   record_cases P refuses drops enters = by_number (ℕ_discrete number_of 0)
     where
-      by_cell : number_of ≡ 0 → (g : IndexCells) → placed capacity b grow (started frame h) ≡ AtEnd g → (o : Bool) → out_of_order frame g.frame_index_len m.frames ≡ o → P call_done
+      by_cell : number_of ≡ 0 → (g : IndexCells) → placed capacity b grow (started frame h) ≡ Some g → (o : Bool) → out_of_order frame g.frame_index_len m.frames ≡ o → P call_done
       by_cell passed g e true o =
           subst P (sym (record_out_of_order capacity b page frame grow m h m.pages m.frames m.hash p passed g e o)) (refuses 3 (λ q. omega (arith, q)))
       by_cell passed g e false o = subst P (sym (stores g e passed o)) (enters g passed e o)
 
-      by_place : number_of ≡ 0 → (r : Place) → placed capacity b grow (started frame h) ≡ r → P call_done
-      by_place passed NoPlace e = subst P (sym (record_dropped capacity b page frame grow m h m.pages m.frames m.hash p passed e)) (drops passed e)
-      by_place passed (AtEnd g) e = by_cell passed g e (out_of_order frame g.frame_index_len m.frames) refl
+      by_place : number_of ≡ 0 → (r : Option IndexCells) → placed capacity b grow (started frame h) ≡ r → P call_done
+      by_place passed None e = subst P (sym (record_dropped capacity b page frame grow m h m.pages m.frames m.hash p passed e)) (drops passed e)
+      by_place passed (Some g) e = by_cell passed g e (out_of_order frame g.frame_index_len m.frames) refl
 
       by_number : Dec (number_of ≡ 0) → P call_done
       by_number (yes passed) = by_place passed (placed capacity b grow (started frame h)) refl

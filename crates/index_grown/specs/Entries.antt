@@ -1,10 +1,8 @@
 -- The entries of an index as a list of pairs, what a record and a rollback make of them, and a page's greatest frame among them. Assumes nothing.
-use Rattle.std.specs.Prelude.{◌&&◌, cond, List, [], ◌∷◌, ◌++◌, ℕ, zero, suc, max, eqb, leb, get_or}
+use Rattle.std.specs.Prelude.{Option, Some, None, ◌&&◌, cond, List, [], ◌∷◌, ◌++◌, ℕ, zero, suc, max, eqb, leb, get_or}
 use Rattle.wal_types.specs.Settings.{within}
 use Rattle.wal_types.specs.Memory.{Memory}
 use Rattle.wal_types.specs.Call.{Pair, pair}
-use Rattle.index_find.specs.declared.find.Lookup.{Lookup}
-use Rattle.index_find.specs.declared.find.Lookup.TheVariants.{Frame, NoFrame}
 use Rattle.index_end.specs.Place.{resets}
 
 -- the pairs of the first n entries, in order
@@ -35,16 +33,16 @@ up_to bound [] = []
 up_to bound (q ∷ rest) = cond (leb q.frame bound) (q ∷ up_to bound rest) (up_to bound rest)
 
 -- the greater of two frames, where both are there
-abbrev pub higher : Lookup → Lookup → Lookup
-higher (Frame f) (Frame g) = Frame (max f g)
-higher (Frame f) NoFrame = Frame f
-higher NoFrame r = r
+abbrev pub higher : Option ℕ → Option ℕ → Option ℕ
+higher (Some f) (Some g) = Some (max f g)
+higher (Some f) None = Some f
+higher None r = r
 
 -- a pair's frame, if it is of this page and from low to high
-abbrev pub frame_in : ℕ → ℕ → ℕ → Pair → Lookup
-frame_in page low high q = cond (eqb q.page page && within low high q.frame) (Frame q.frame) NoFrame
+abbrev pub frame_in : ℕ → ℕ → ℕ → Pair → Option ℕ
+frame_in page low high q = cond (eqb q.page page && within low high q.frame) (Some q.frame) None
 
 -- The greatest frame among the pairs of a page whose frame is from low to high, both included, or none.
-unfoldable pub greatest : List Pair → ℕ → ℕ → ℕ → Lookup
-greatest [] page low high = NoFrame
+unfoldable pub greatest : List Pair → ℕ → ℕ → ℕ → Option ℕ
+greatest [] page low high = None
 greatest (q ∷ rest) page low high = higher (frame_in page low high q) (greatest rest page low high)

@@ -1,8 +1,7 @@
 -- What a list of the latest frames is: by properties. Assumes nothing.
-use Rattle.std.specs.Prelude.{◌≡◌, ℕ, ◌+◌, ◌≤◌}
+use Rattle.std.specs.Prelude.{Some, ◌≡◌, ℕ, ◌+◌, ◌≤◌}
 use mathlib.Core.List.{List, [], ◌∷◌, Memᴰ}
 use Rattle.wal_types.specs.Call.{Pair, pair}
-use Rattle.index_find.specs.declared.find.Lookup.TheVariants.{Frame}
 use Rattle.index_grown.specs.Entries.{greatest}
 
 -- the pages rise strictly, from this page on
@@ -14,5 +13,5 @@ PagesRise least (q ∷ rest) = (least ≤ q.page) × PagesRise (q.page + 1) rest
 -- greatest, by rising page.
 pub record IsListOf (es : List Pair) (low high : ℕ) (l : List Pair) : Type 0 where
   pub rises : PagesRise 0 l
-  pub only : (page f : ℕ) → Memᴰ (pair page f) l → greatest es page low high ≡ Frame f
-  pub every : (page f : ℕ) → greatest es page low high ≡ Frame f → Memᴰ (pair page f) l
+  pub only : (page f : ℕ) → Memᴰ (pair page f) l → greatest es page low high ≡ Some f
+  pub every : (page f : ℕ) → greatest es page low high ≡ Some f → Memᴰ (pair page f) l

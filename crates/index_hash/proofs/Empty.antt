@@ -10,8 +10,7 @@ use lib.ListN.{length, get_or, set}
 use lib.Seq.{get_or-set_same, get_or-set_other}
 use borrow.Author.Count.{below_more}
 use borrow.Author.Tests.{eqb-true, eqb-false}
-use Rattle.index_hash.specs.declared.Cell.{Cell}
-use Rattle.index_hash.specs.declared.Cell.TheVariants.{Empty, Full}
+use Rattle.std.specs.Prelude.{Option, Some, None}
 use Rattle.index_hash.specs.Home.{cell_at}
 use Rattle.index_hash.specs.Block.{empty_from, empty_cell, named_in, inserted}
 use Rattle.index_hash.proofs.Home.{cell_at_home, cell_at_next, cell_at_below}
@@ -34,9 +33,9 @@ pub record First (h : List ℕ) (page c : ℕ) : Type 0 where
   pub before : AllUsed h page steps
 
 -- what the search says by its answer
-abbrev pub Found : List ℕ → ℕ → Cell → Type 0
-Found h page (Empty c) = First h page c
-Found h page Full = AllUsed h page 8192
+abbrev pub Found : List ℕ → ℕ → Option ℕ → Type 0
+Found h page (Some c) = First h page c
+Found h page None = AllUsed h page 8192
 
 module _ (h : List ℕ) (page : ℕ) where
   -- the search j steps from home, with every cell before used
@@ -54,24 +53,24 @@ module _ (h : List ℕ) (page : ℕ) where
   search_found = rw (← cell_at_home page) (search_from 8192 0 refl (λ k l. absurd (omega arith)))
 
   -- the cell that is found is the first empty one
-  pub found_first : (c : ℕ) → empty_cell h page ≡ Empty c → First h page c
+  pub found_first : (c : ℕ) → empty_cell h page ≡ Some c → First h page c
   found_first c e = subst (Found h page) e search_found
 
   -- the cell that is found is one of the block
-  pub found_below : (c : ℕ) → empty_cell h page ≡ Empty c → c < 8192
+  pub found_below : (c : ℕ) → empty_cell h page ≡ Some c → c < 8192
   found_below c e = let f = found_first c e in let b = cell_at_below page f.steps in omega arith
 
   -- and is empty
-  pub found_empty : (c : ℕ) → empty_cell h page ≡ Empty c → get_or h c 0 ≡ 0
+  pub found_empty : (c : ℕ) → empty_cell h page ≡ Some c → get_or h c 0 ≡ 0
   found_empty c e = (found_first c e).empty
 
 -- insert, by the cell that is found
-pub inserted_at : (h : List ℕ) (place page c : ℕ) → empty_cell h page ≡ Empty c → inserted h place page ≡ set h c (place + 1)
+pub inserted_at : (h : List ℕ) (place page c : ℕ) → empty_cell h page ≡ Some c → inserted h place page ≡ set h c (place + 1)
 unfolding inserted
 inserted_at h place page c e = rw e
 
 -- a full table stays as it is
-pub inserted_full : (h : List ℕ) (place page : ℕ) → empty_cell h page ≡ Full → inserted h place page ≡ h
+pub inserted_full : (h : List ℕ) (place page : ℕ) → empty_cell h page ≡ None → inserted h place page ≡ h
 unfolding inserted
 inserted_full h place page e = rw e
 
@@ -80,9 +79,9 @@ pub on_insert : (P : List ℕ → Type 0) (h : List ℕ) (place page : ℕ) → 
 unfolding inserted
 on_insert P h place page some none = go (empty_cell h page) (search_found h page)
   where
-    go : (x : Cell) → Found h page x → P (named_in h place x)
-    go (Empty c) w = some c w
-    go Full w = none w
+    go : (x : Option ℕ) → Found h page x → P (named_in h place x)
+    go (Some c) w = some c w
+    go None w = none w
 
 -- a cell after a store: the value stored, or what it was
 pub set_cell : (P : ℕ → Type 0) (h : List ℕ) (c v k : ℕ) → c < length h → (k ≡ c → P v) → ((k ≡ c → ⊥) → P (get_or h k 0)) → P (get_or (set h c v) k 0)

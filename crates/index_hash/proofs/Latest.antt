@@ -8,13 +8,12 @@ use native.Mathlib.Omega.{arith}
 use lib.Dec.{eqb}
 use lib.ListN.{get_or}
 use borrow.Author.Tests.{eqb-true, eqb-false, eq-eqb, ne_eqb}
-use Rattle.index_hash.specs.declared.Probe.{Probe}
-use Rattle.index_hash.specs.declared.Probe.TheVariants.{At, Nothing}
+use Rattle.std.specs.Prelude.{Option, Some, None}
 use Rattle.index_hash.specs.InnerLatest.{latest_below}
 use Rattle.index_hash.proofs.Empty.{by_test}
 
 -- a place with the page is the latest below the next
-pub latest_here : (pages : List ℕ) (page v : ℕ) → get_or pages v 0 ≡ page → latest_below pages page (suc v) ≡ At v
+pub latest_here : (pages : List ℕ) (page v : ℕ) → get_or pages v 0 ≡ page → latest_below pages page (suc v) ≡ Some v
 unfolding latest_below
 latest_here pages page v e = rw (eq-eqb _ _ e)
 
@@ -34,9 +33,9 @@ abbrev pub NoneFrom : List ℕ → ℕ → ℕ → ℕ → Type 0
 NoneFrom pages page v k = (i : ℕ) → k ≤ i → i < v → get_or pages i 0 ≡ page → ⊥
 
 -- the greatest place below v with the page, or none has it
-abbrev pub IsLatest : List ℕ → ℕ → ℕ → Probe → Type 0
-IsLatest pages page v (At i) = (i < v) × ((get_or pages i 0 ≡ page) × NoneFrom pages page v (i + 1))
-IsLatest pages page v Nothing = NoneFrom pages page v 0
+abbrev pub IsLatest : List ℕ → ℕ → ℕ → Option ℕ → Type 0
+IsLatest pages page v (Some i) = (i < v) × ((get_or pages i 0 ≡ page) × NoneFrom pages page v (i + 1))
+IsLatest pages page v None = NoneFrom pages page v 0
 
 -- the definition gives just that
 pub latest_is : (pages : List ℕ) (page v : ℕ) → IsLatest pages page v (latest_below pages page v)
@@ -50,6 +49,6 @@ latest_is pages page (suc v) =
     none_more : (k : ℕ) → (get_or pages v 0 ≡ page → ⊥) → NoneFrom pages page v k → NoneFrom pages page (suc v) k
     none_more k o none i b l = elim (eq-or-lt_of_le (le_of_suc-le-suc l)) [ inl e ↦ rw e o | inr s ↦ none i b s ]
 
-    wider : (get_or pages v 0 ≡ page → ⊥) → (x : Probe) → IsLatest pages page v x → IsLatest pages page (suc v) x
-    wider o (At i) f = (omega (arith, f.0), (f.1.0, none_more (i + 1) o f.1.1))
-    wider o Nothing f = none_more 0 o f
+    wider : (get_or pages v 0 ≡ page → ⊥) → (x : Option ℕ) → IsLatest pages page v x → IsLatest pages page (suc v) x
+    wider o (Some i) f = (omega (arith, f.0), (f.1.0, none_more (i + 1) o f.1.1))
+    wider o None f = none_more 0 o f

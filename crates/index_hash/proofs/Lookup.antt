@@ -11,8 +11,7 @@ use lib.Dec.{eqb, ltb}
 use lib.ListN.{length, get_or, set}
 use lib.Seq.{get_or-set_same, get_or-set_other}
 use borrow.Author.Tests.{eqb-false, eq-eqb, ne_eqb, lt-ltb, le-ltb}
-use Rattle.index_hash.specs.declared.Probe.{Probe}
-use Rattle.index_hash.specs.declared.Probe.TheVariants.{At, Nothing}
+use Rattle.std.specs.Prelude.{Option, Some, None}
 use Rattle.index_hash.specs.Home.{home, cell_at}
 use Rattle.index_hash.specs.Block.{cleared, built, probe_from, probe}
 use Rattle.index_hash.specs.InnerLatest.{latest_below}
@@ -54,12 +53,12 @@ built_behind pages (suc n) page =
     (λ full. built_behind pages n page)
 
 -- a probe that meets no entry of the page any more keeps what it has
-nothing_more : (h pages : List ℕ) (page visible m j : ℕ) (latest : Probe) → j + m ≡ 8192 → ((k : ℕ) → j ≤ k → k < 8192 → NamesPage pages page (get_or h (cell_at page k) 0) → ⊥) → probe_from m h pages page visible (cell_at page j) latest ≡ latest
+nothing_more : (h pages : List ℕ) (page visible m j : ℕ) (latest : Option ℕ) → j + m ≡ 8192 → ((k : ℕ) → j ≤ k → k < 8192 → NamesPage pages page (get_or h (cell_at page k) 0) → ⊥) → probe_from m h pages page visible (cell_at page j) latest ≡ latest
 unfolding probe_from
 nothing_more h pages page visible zero j latest e none = refl
 nothing_more h pages page visible (suc m) j latest e none =
-    by_test (λ (x : Probe). x ≡ latest) (eqb (get_or h (cell_at page j) 0) 0) (λ t. refl)
-    (λ t. by_test (λ (x : Probe). x ≡ latest) (ltb (get_or h (cell_at page j) 0 - 1) visible)
+    by_test (λ (x : Option ℕ). x ≡ latest) (eqb (get_or h (cell_at page j) 0) 0) (λ t. refl)
+    (λ t. by_test (λ (x : Option ℕ). x ≡ latest) (ltb (get_or h (cell_at page j) 0 - 1) visible)
     (λ s.
     let u = eqb-false (get_or h (cell_at page j) 0) 0 t in
     rw (cell_at_next page j, ne_eqb (get_or pages (get_or h (cell_at page j) 0 - 1) 0) page (λ p. none j (omega arith) (omega arith) (omega arith, p)))
@@ -67,12 +66,12 @@ nothing_more h pages page visible (suc m) j latest e none =
     (λ s. refl))
 
 -- an entry that is not visible, named in an empty cell, changes no answer
-hidden_set : (h pages : List ℕ) (page visible c v : ℕ) → c < length h → get_or h c 0 ≡ 0 → visible < v → (m cell : ℕ) (latest : Probe) → probe_from m (set h c v) pages page visible cell latest ≡ probe_from m h pages page visible cell latest
+hidden_set : (h pages : List ℕ) (page visible c v : ℕ) → c < length h → get_or h c 0 ≡ 0 → visible < v → (m cell : ℕ) (latest : Option ℕ) → probe_from m (set h c v) pages page visible cell latest ≡ probe_from m h pages page visible cell latest
 unfolding probe_from
 hidden_set h pages page visible c v b z l zero cell latest = refl
 hidden_set h pages page visible c v b z l (suc m) cell latest = go (hidden_set h pages page visible c v b z l m) (ℕ_discrete cell c)
   where
-    go : ((cell : ℕ) (latest : Probe) → probe_from m (set h c v) pages page visible cell latest ≡ probe_from m h pages page visible cell latest) → Dec (cell ≡ c) → probe_from (suc m) (set h c v) pages page visible cell latest ≡ probe_from (suc m) h pages page visible cell latest
+    go : ((cell : ℕ) (latest : Option ℕ) → probe_from m (set h c v) pages page visible cell latest ≡ probe_from m h pages page visible cell latest) → Dec (cell ≡ c) → probe_from (suc m) (set h c v) pages page visible cell latest ≡ probe_from (suc m) h pages page visible cell latest
     go ih (yes e) = rw (e, get_or-set_same h c v 0 b, z, ne_eqb v 0 (λ q. absurd (omega arith)), le-ltb (v - 1) visible (omega arith))
     go ih (no e) = simp (get_or-set_other h c cell v 0 e, ih)
 
@@ -82,13 +81,13 @@ module _ (h pages : List ℕ) (page n c : ℕ) (fits : c < length h) (empty : ge
   h' = set h c (n + 1)
 
   -- what the probe from step j on does at c: it goes on, and meets the page no more
-  at_c : (m j : ℕ) (latest : Probe) → j + suc m ≡ 8192 → cell_at page j ≡ c → probe_from (suc m) h' pages page (suc n) (cell_at page j) latest ≡ cond (eqb (get_or pages n 0) page) (At n) latest
+  at_c : (m j : ℕ) (latest : Option ℕ) → j + suc m ≡ 8192 → cell_at page j ≡ c → probe_from (suc m) h' pages page (suc n) (cell_at page j) latest ≡ cond (eqb (get_or pages n 0) page) (Some n) latest
   unfolding probe_from
   at_c m j latest s e =
       let named : get_or h' (cell_at page j) 0 ≡ n + 1 = ap (λ (k : ℕ). get_or h' k 0) e ∙ get_or-set_same h c (n + 1) 0 fits in
       let place : n + 1 - 1 ≡ n = omega arith in
       rw (named, ne_eqb (n + 1) 0 (λ q. absurd (omega arith)), place, lt-ltb n (suc n) (omega arith), cell_at_next page j)
-      (nothing_more h' pages page (suc n) m (j + 1) (cond (eqb (get_or pages n 0) page) (At n) latest) (omega arith) later)
+      (nothing_more h' pages page (suc n) m (j + 1) (cond (eqb (get_or pages n 0) page) (Some n) latest) (omega arith) later)
     where
       later : (k : ℕ) → j + 1 ≤ k → k < 8192 → NamesPage pages page (get_or h' (cell_at page k) 0) → ⊥
       later k l m =
@@ -97,19 +96,19 @@ module _ (h pages : List ℕ) (page n c : ℕ) (fits : c < length h) (empty : ge
           (λ q. behind j k (omega arith) m (ap (λ (i : ℕ). get_or h i 0) e ∙ empty))
 
   -- what it does at another used cell: it goes on, as before
-  at_other : (m j : ℕ) (latest : Probe) → (cell_at page j ≡ c → ⊥) → (get_or h (cell_at page j) 0 ≡ 0 → ⊥) → probe_from (suc m) h' pages page (suc n) (cell_at page j) latest ≡ probe_from m h' pages page (suc n) (cell_at page (j + 1)) (cond (eqb (get_or pages (get_or h (cell_at page j) 0 - 1) 0) page) (At (get_or h (cell_at page j) 0 - 1)) latest)
+  at_other : (m j : ℕ) (latest : Option ℕ) → (cell_at page j ≡ c → ⊥) → (get_or h (cell_at page j) 0 ≡ 0 → ⊥) → probe_from (suc m) h' pages page (suc n) (cell_at page j) latest ≡ probe_from m h' pages page (suc n) (cell_at page (j + 1)) (cond (eqb (get_or pages (get_or h (cell_at page j) 0 - 1) 0) page) (Some (get_or h (cell_at page j) 0 - 1)) latest)
   unfolding probe_from
   at_other m j latest e u =
       let b = small (cell_at page j) in
       rw (get_or-set_other h c (cell_at page j) (n + 1) 0 e, ne_eqb (get_or h (cell_at page j) 0) 0 u, lt-ltb (get_or h (cell_at page j) 0 - 1) (suc n) (omega arith), cell_at_next page j)
 
   -- an entry of another page changes no answer
-  other_page : (get_or pages n 0 ≡ page → ⊥) → (m j : ℕ) (latest : Probe) → j + m ≡ 8192 → probe_from m h' pages page (suc n) (cell_at page j) latest ≡ probe_from m h pages page n (cell_at page j) latest
+  other_page : (get_or pages n 0 ≡ page → ⊥) → (m j : ℕ) (latest : Option ℕ) → j + m ≡ 8192 → probe_from m h' pages page (suc n) (cell_at page j) latest ≡ probe_from m h pages page n (cell_at page j) latest
   unfolding probe_from
   other_page o zero j latest s = refl
   other_page o (suc m) j latest s = go (λ l. other_page o m (j + 1) l (omega arith)) (ℕ_discrete (cell_at page j) c) (ℕ_discrete (get_or h (cell_at page j) 0) 0)
     where
-      go : ((l : Probe) → probe_from m h' pages page (suc n) (cell_at page (j + 1)) l ≡ probe_from m h pages page n (cell_at page (j + 1)) l) → Dec (cell_at page j ≡ c) → Dec (get_or h (cell_at page j) 0 ≡ 0) → probe_from (suc m) h' pages page (suc n) (cell_at page j) latest ≡ probe_from (suc m) h pages page n (cell_at page j) latest
+      go : ((l : Option ℕ) → probe_from m h' pages page (suc n) (cell_at page (j + 1)) l ≡ probe_from m h pages page n (cell_at page (j + 1)) l) → Dec (cell_at page j ≡ c) → Dec (get_or h (cell_at page j) 0 ≡ 0) → probe_from (suc m) h' pages page (suc n) (cell_at page j) latest ≡ probe_from (suc m) h pages page n (cell_at page j) latest
       go ih (yes e) d = at_c m j latest s e ∙ rw (ap (λ (i : ℕ). get_or h i 0) e ∙ empty, ne_eqb (get_or pages n 0) page o)
       go ih (no e) (yes z) = rw (get_or-set_other h c (cell_at page j) (n + 1) 0 e, z)
       go ih (no e) (no u) =
@@ -117,7 +116,7 @@ module _ (h pages : List ℕ) (page n c : ℕ) (fits : c < length h) (empty : ge
           at_other m j latest e u ∙ ih _ ∙ rw (ne_eqb (get_or h (cell_at page j) 0) 0 u, lt-ltb (get_or h (cell_at page j) 0 - 1) n (omega arith), cell_at_next page j)
 
   -- an entry of the page, in the first empty cell from its home on, is the answer
-  same_page : get_or pages n 0 ≡ page → (w : First h page c) (m j : ℕ) (latest : Probe) → j + m ≡ 8192 → j ≤ w.steps → probe_from m h' pages page (suc n) (cell_at page j) latest ≡ At n
+  same_page : get_or pages n 0 ≡ page → (w : First h page c) (m j : ℕ) (latest : Option ℕ) → j + m ≡ 8192 → j ≤ w.steps → probe_from m h' pages page (suc n) (cell_at page j) latest ≡ Some n
   same_page o w zero j latest s l = let b = w.within in absurd (omega arith)
   same_page o w (suc m) j latest s l =
       elim (eq-or-lt_of_le l) [
@@ -126,7 +125,7 @@ module _ (h pages : List ℕ) (page n c : ℕ) (fits : c < length h) (empty : ge
       ]
 
 -- a probe starts no step from home
-probe_starts : (h pages : List ℕ) (page visible : ℕ) → probe h pages page visible ≡ probe_from 8192 h pages page visible (cell_at page 0) Nothing
+probe_starts : (h pages : List ℕ) (page visible : ℕ) → probe h pages page visible ≡ probe_from 8192 h pages page visible (cell_at page 0) None
 unfolding probe
 probe_starts h pages page visible = rw (cell_at_home page)
 
@@ -138,17 +137,17 @@ module _ (pages : List ℕ) (n page c : ℕ) (w : First (built pages n) (get_or 
   -- with the new entry not visible, the answer is the old one
   still : (v : ℕ) → v < suc n → probe (set (built pages n) c (n + 1)) pages page v ≡ latest_below pages page v
   unfolding probe
-  still v l = hidden_set (built pages n) pages page v c (n + 1) fits w.empty (omega arith) 8192 (home page) Nothing ∙ before v (omega arith)
+  still v l = hidden_set (built pages n) pages page v c (n + 1) fits w.empty (omega arith) 8192 (home page) None ∙ before v (omega arith)
 
   -- with it visible, it is the answer if it has the page
   newest : Dec (get_or pages n 0 ≡ page) → probe (set (built pages n) c (n + 1)) pages page (suc n) ≡ latest_below pages page (suc n)
   newest (yes o) =
       probe_starts (set (built pages n) c (n + 1)) pages page (suc n)
-      ∙ same_page (built pages n) pages page n c fits w.empty (built_cell_le pages n) (built_behind pages n page) o (subst (λ (p : ℕ). First (built pages n) p c) o w) 8192 0 Nothing refl (omega arith)
+      ∙ same_page (built pages n) pages page n c fits w.empty (built_cell_le pages n) (built_behind pages n page) o (subst (λ (p : ℕ). First (built pages n) p c) o w) 8192 0 None refl (omega arith)
       ∙ sym (latest_here pages page n o)
   newest (no o) =
       probe_starts (set (built pages n) c (n + 1)) pages page (suc n)
-      ∙ other_page (built pages n) pages page n c fits w.empty (built_cell_le pages n) (built_behind pages n page) o 8192 0 Nothing refl
+      ∙ other_page (built pages n) pages page n c fits w.empty (built_cell_le pages n) (built_behind pages n page) o 8192 0 None refl
       ∙ sym (probe_starts (built pages n) pages page n)
       ∙ before n (omega arith)
       ∙ sym (latest_other pages page n o)
@@ -163,7 +162,7 @@ pub lookup : (pages : List ℕ) (n page v : ℕ) → n ≤ 8192 → v ≤ n → 
 unfolding built latest_below
 lookup pages zero page zero l b =
     probe_starts cleared pages page 0
-    ∙ nothing_more cleared pages page 0 8192 0 Nothing refl (λ k i m p. let e = cleared_empty (cell_at page k) in let q = p.0 in absurd (omega arith))
+    ∙ nothing_more cleared pages page 0 8192 0 None refl (λ k i m p. let e = cleared_empty (cell_at page k) in let q = p.0 in absurd (omega arith))
 lookup pages zero page (suc v) l b = absurd (omega arith)
 lookup pages (suc n) page v l b =
     on_insert (λ (h : List ℕ). probe h pages page v ≡ latest_below pages page v) (built pages n) n (get_or pages n 0)

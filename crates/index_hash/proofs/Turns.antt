@@ -7,17 +7,14 @@ use native.Mathlib.Omega.{arith}
 use lib.Dec.{eqb}
 use lib.ListN.{get_or}
 use borrow.Author.Tests.{eq-eqb, ne_eqb, lt-ltb, le-ltb}
-use Rattle.index_hash.specs.declared.Cell.{Cell}
-use Rattle.index_hash.specs.declared.Cell.TheVariants.{Empty, Full}
-use Rattle.index_hash.specs.declared.Probe.{Probe}
-use Rattle.index_hash.specs.declared.Probe.TheVariants.{At, Nothing}
+use Rattle.std.specs.Prelude.{Option, Some, None}
 use Rattle.index_hash.specs.Home.{home, next_cell}
 use Rattle.index_hash.specs.Block.{empty_from, probe_from, probe, looked_from}
 
 -- the search for an empty cell, with n cells left
-module _ (n : ℕ) (h : List ℕ) (cell : ℕ) (whole : Cell) (so_far : empty_from n h cell ≡ whole) where
+module _ (n : ℕ) (h : List ℕ) (cell : ℕ) (whole : Option ℕ) (so_far : empty_from n h cell ≡ whole) where
   -- no cell is left
-  pub none_left : n ≡ 0 → Full ≡ whole
+  pub none_left : n ≡ 0 → None ≡ whole
   unfolding empty_from
   none_left s = rw s at so_far
 
@@ -27,17 +24,17 @@ module _ (n : ℕ) (h : List ℕ) (cell : ℕ) (whole : Cell) (so_far : empty_fr
   at_used m more used = simp (more, ne_eqb _ _ used) at so_far
 
   -- it is empty: it is found
-  pub at_empty : 0 < n → get_or h cell 0 ≡ 0 → Empty cell ≡ whole
+  pub at_empty : 0 < n → get_or h cell 0 ≡ 0 → Some cell ≡ whole
   unfolding empty_from
   at_empty l z = let more : n ≡ suc (n - 1) = omega arith in simp (more, eq-eqb _ _ z) at so_far
 
 -- the probe starts at the page's home, with nothing met
-pub probe_start : (h pages : List ℕ) (page visible cell : ℕ) → cell ≡ home page → probe_from 8192 h pages page visible cell Nothing ≡ probe h pages page visible
+pub probe_start : (h pages : List ℕ) (page visible cell : ℕ) → cell ≡ home page → probe_from 8192 h pages page visible cell None ≡ probe h pages page visible
 unfolding probe
-probe_start h pages page visible cell e = ap (λ (x : ℕ). probe_from 8192 h pages page visible x Nothing) e
+probe_start h pages page visible cell e = ap (λ (x : ℕ). probe_from 8192 h pages page visible x None) e
 
 -- the probe, with n cells left
-module _ (n : ℕ) (h pages : List ℕ) (page visible cell : ℕ) (latest whole : Probe) (so_far : probe_from n h pages page visible cell latest ≡ whole) where
+module _ (n : ℕ) (h pages : List ℕ) (page visible cell : ℕ) (latest whole : Option ℕ) (so_far : probe_from n h pages page visible cell latest ≡ whole) where
   -- no cell is left
   pub probe_none_left : n ≡ 0 → latest ≡ whole
   unfolding probe_from
@@ -56,7 +53,7 @@ module _ (n : ℕ) (h pages : List ℕ) (page visible cell : ℕ) (latest whole 
 
     module _ (m : ℕ) (more : n ≡ suc m) (seen : get_or h cell 0 - 1 < visible) where
       -- a visible entry: it goes on, with that entry if it is the page's
-      pub probe_at_live : probe_from m h pages page visible (next_cell cell) (cond (eqb (get_or pages (get_or h cell 0 - 1) 0) page) (At (get_or h cell 0 - 1)) latest) ≡ whole
+      pub probe_at_live : probe_from m h pages page visible (next_cell cell) (cond (eqb (get_or pages (get_or h cell 0 - 1) 0) page) (Some (get_or h cell 0 - 1)) latest) ≡ whole
       unfolding probe_from
       probe_at_live = simp (more, ne_eqb _ _ used, lt-ltb _ _ seen) at so_far
 
@@ -66,7 +63,7 @@ module _ (n : ℕ) (h pages : List ℕ) (page visible cell : ℕ) (latest whole 
       probe_at_other e = simp (more, ne_eqb _ _ used, lt-ltb _ _ seen, ne_eqb _ _ e) at so_far
 
       -- an entry of the page: it goes on with that
-      pub probe_at_page : get_or pages (get_or h cell 0 - 1) 0 ≡ page → probe_from m h pages page visible (next_cell cell) (At (get_or h cell 0 - 1)) ≡ whole
+      pub probe_at_page : get_or pages (get_or h cell 0 - 1) 0 ≡ page → probe_from m h pages page visible (next_cell cell) (Some (get_or h cell 0 - 1)) ≡ whole
       unfolding probe_from
       probe_at_page e = simp (more, ne_eqb _ _ used, lt-ltb _ _ seen, eq-eqb _ _ e) at so_far
 

@@ -11,8 +11,7 @@ use lib.Dec.{eqb}
 use lib.ListN.{length, get_or, set, replicate}
 use lib.Seq.{get_or-set_same, get_or-set_other}
 use borrow.Author.Tests.{eq-eqb, ne_eqb}
-use Rattle.index_hash.specs.declared.Cell.{Cell}
-use Rattle.index_hash.specs.declared.Cell.TheVariants.{Empty, Full}
+use Rattle.std.specs.Prelude.{Option, Some, None}
 use Rattle.index_hash.specs.Home.{cell_at}
 use Rattle.index_hash.specs.Block.{cleared, empty_cell, built, used}
 use Rattle.index_hash.proofs.Home.{cell_at_once}
@@ -81,16 +80,16 @@ not_all_used pages n page l all =
     omega arith
 
 -- and the search for an empty cell finds one
-pub never_full : (pages : List ℕ) (n page : ℕ) → n < 8192 → empty_cell (built pages n) page ≡ Full → ⊥
+pub never_full : (pages : List ℕ) (n page : ℕ) → n < 8192 → empty_cell (built pages n) page ≡ None → ⊥
 never_full pages n page l e = not_all_used pages n page l (subst (Found (built pages n) page) e (search_found (built pages n) page))
 
 -- the same, with the cell
-pub has_room : (pages : List ℕ) (n page : ℕ) → n < 8192 → (c : ℕ) × (empty_cell (built pages n) page ≡ Empty c)
+pub has_room : (pages : List ℕ) (n page : ℕ) → n < 8192 → (c : ℕ) × (empty_cell (built pages n) page ≡ Some c)
 has_room pages n page l = go (empty_cell (built pages n) page) refl
   where
-    go : (x : Cell) → empty_cell (built pages n) page ≡ x → (c : ℕ) × (empty_cell (built pages n) page ≡ Empty c)
-    go (Empty c) e = (c, e)
-    go Full e = absurd (never_full pages n page l e)
+    go : (x : Option ℕ) → empty_cell (built pages n) page ≡ x → (c : ℕ) × (empty_cell (built pages n) page ≡ Some c)
+    go (Some c) e = (c, e)
+    go None e = absurd (never_full pages n page l e)
 
 -- a store in an empty cell is one used cell more
 used_set : (h : List ℕ) (c v : ℕ) → c < length h → get_or h c 0 ≡ 0 → used (set h c (v + 1)) ≡ used h + 1

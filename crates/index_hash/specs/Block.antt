@@ -1,11 +1,7 @@
 -- One block's hash table: clear, insert, rebuild and probe, as the source has them, on any contents. Assumes nothing.
 -- h is the block's 8,192 cells; a cell is a place in the block + 1, or 0 for empty.
-use Rattle.std.specs.Prelude.{cond, List, [], ◌∷◌, ℕ, zero, suc, ◌+◌, ◌-◌, eqb, ltb, get_or, set, replicate}
+use Rattle.std.specs.Prelude.{Option, Some, None, cond, List, [], ◌∷◌, ℕ, zero, suc, ◌+◌, ◌-◌, eqb, ltb, get_or, set, replicate}
 use Rattle.wal_types.specs.Settings.{block_cells}
-use Rattle.index_hash.specs.declared.Cell.{Cell}
-use Rattle.index_hash.specs.declared.Cell.TheVariants.{Empty, Full}
-use Rattle.index_hash.specs.declared.Probe.{Probe}
-use Rattle.index_hash.specs.declared.Probe.TheVariants.{At, Nothing}
 use Rattle.index_hash.specs.Home.{home, next_cell}
 
 -- every cell empty
@@ -13,18 +9,18 @@ unfoldable pub cleared : List ℕ
 cleared = replicate block_cells 0
 
 -- the first empty cell from this one on, within so many cells
-unfoldable pub empty_from : ℕ → List ℕ → ℕ → Cell
-empty_from zero h cell = Full
-empty_from (suc left) h cell = cond (eqb (get_or h cell 0) 0) (Empty cell) (empty_from left h (next_cell cell))
+unfoldable pub empty_from : ℕ → List ℕ → ℕ → Option ℕ
+empty_from zero h cell = None
+empty_from (suc left) h cell = cond (eqb (get_or h cell 0) 0) (Some cell) (empty_from left h (next_cell cell))
 
 -- the cell where a page's entry goes: the first empty one from its home on
-unfoldable pub empty_cell : List ℕ → ℕ → Cell
+unfoldable pub empty_cell : List ℕ → ℕ → Option ℕ
 empty_cell h page = empty_from block_cells h (home page)
 
 -- the table with the entry at this place of the block named in that cell
-abbrev pub named_in : List ℕ → ℕ → Cell → List ℕ
-named_in h place (Empty cell) = set h cell (place + 1)
-named_in h place Full = h
+abbrev pub named_in : List ℕ → ℕ → Option ℕ → List ℕ
+named_in h place (Some cell) = set h cell (place + 1)
+named_in h place None = h
 
 -- insert: the entry at this place of the block, of this page
 unfoldable pub inserted : List ℕ → ℕ → ℕ → List ℕ
@@ -38,17 +34,17 @@ built pages (suc n) = inserted (built pages n) n (get_or pages n 0)
 -- Probe for a page among the first `visible` entries: from its home, cell by cell. An empty cell ends it. A cell that names
 -- an entry beyond the visible ones does not advance the probe, which so ends too. The last entry of the page that was met is
 -- the answer.
-unfoldable pub probe_from : ℕ → List ℕ → List ℕ → ℕ → ℕ → ℕ → Probe → Probe
+unfoldable pub probe_from : ℕ → List ℕ → List ℕ → ℕ → ℕ → ℕ → Option ℕ → Option ℕ
 probe_from zero h pages page visible cell latest = latest
 probe_from (suc left) h pages page visible cell latest =
     cond (eqb (get_or h cell 0) 0) latest
     (cond (ltb (get_or h cell 0 - 1) visible)
-    (probe_from left h pages page visible (next_cell cell) (cond (eqb (get_or pages (get_or h cell 0 - 1) 0) page) (At (get_or h cell 0 - 1)) latest))
+    (probe_from left h pages page visible (next_cell cell) (cond (eqb (get_or pages (get_or h cell 0 - 1) 0) page) (Some (get_or h cell 0 - 1)) latest))
     latest)
 
 -- the whole probe: from the page's home, with nothing met
-unfoldable pub probe : List ℕ → List ℕ → ℕ → ℕ → Probe
-probe h pages page visible = probe_from block_cells h pages page visible (home page) Nothing
+unfoldable pub probe : List ℕ → List ℕ → ℕ → ℕ → Option ℕ
+probe h pages page visible = probe_from block_cells h pages page visible (home page) None
 
 -- How many cells the probe looks at. The empty cell that ends it counts, and so does a cell that names an entry beyond the
 -- visible ones.

@@ -1,5 +1,4 @@
-// One block's hash table: open addressing with linear probing over the block's 8,192 cells, lent as a part that starts at
-// the block's first cell. A cell holds a place in the block + 1, or 0 for empty. Here is what is done cell by cell;
+// One block's hash table: open addressing with linear probing over the block's 8,192 cells. A cell holds a place in the block + 1, or 0 for empty. Here is what is done cell by cell;
 // `index_search` looks at many cells at once, and `index_rebuild` builds a table anew.
 #![tactic(auto)]
 
@@ -17,20 +16,6 @@ pub const BLOCK_CELLS: usize = FRAME_INDEX_BLOCK_HASH_SLOTS as usize;
 
 const HASH_SLOTS: u64 = FRAME_INDEX_BLOCK_HASH_SLOTS as u64;
 
-// Where an entry goes: an empty cell, or none is left.
-#[derive(Clone, Copy)]
-pub enum Cell {
-    Empty(usize),
-    Full,
-}
-
-// What a probe finds: the place of the page's latest visible entry.
-#[derive(Clone, Copy)]
-pub enum Probe {
-    At(usize),
-    Nothing,
-}
-
 // (page × 383) mod 8,192. The remainder goes first, so that the product cannot wrap.
 pub fn hash_page_id(page_id: u64) -> usize
     ensures { (result ≡ home page_id) × (result < block_cells) }
@@ -38,29 +23,29 @@ pub fn hash_page_id(page_id: u64) -> usize
     ((page_id % HASH_SLOTS) * 383 % HASH_SLOTS) as usize
 }
 
-// Every cell empty.
+// Every cell empty. (A slice, with its length in the contract: of a part of a slice that is lent as `&mut [u16; N]` the
+// lender's proof is not told what it becomes.)
+#[tactic(auto, unfolding(crate::specs::Block::cleared))]
 pub fn clear_frame_index_block_hash(hash: &mut [u16])
     requires { length hash.old ≡ block_cells }
     ensures { hash.new ≡ cleared }
 {
-    for cell in 0..BLOCK_CELLS {
-        hash[cell] = 0;
-    }
+    hash.fill(0);
 }
 
-// The first empty one of so many cells from this one on.
-pub fn empty_from(hash: &[u16], from: usize, cells: usize) -> Cell
-    requires { (length hash.now ≡ block_cells) × (from < block_cells) }
+// The first empty one of so many cells from this one on, if there is one. (A for: of a chain with find the check leaves the
+// goal open.)
+pub fn empty_from(hash: &[u16; BLOCK_CELLS], from: usize, cells: usize) -> Option<usize>
+    requires { from < block_cells }
     ensures { result ≡ empty_from cells hash.now from }
 {
-    let mut cell = from;
-    for _ in 0..cells {
+    for step in 0..cells {
+        let cell = (from + step % BLOCK_CELLS) % BLOCK_CELLS;
         if hash[cell] == 0 {
-            return Cell::Empty(cell);
+            return Some(cell);
         }
-        cell = (cell + 1) % BLOCK_CELLS;
     }
-    Cell::Full
+    None
 }
 
 // The cell names the entry at this place of the block.

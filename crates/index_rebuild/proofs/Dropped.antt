@@ -11,10 +11,10 @@ use lib.ListN.{length, get_or, set, replicate, length-set, get_or-replicate}
 use lib.Pow.{pow_pos, shr-shr}
 use lib.Seq.{get_or-set_same, get_or-set_other}
 use borrow.Author.Tests.{eqb-true, eq-eqb, ne_eqb}
+use Rattle.std.specs.Prelude.{Some}
 use Rattle.wal_types.specs.Memory.{bit_at}
 use Rattle.word_bits.specs.Bit.{clear_bit}
 use Rattle.word_bits.proofs.Bits.{clear_other, clear_le}
-use Rattle.index_hash.specs.declared.Cell.TheVariants.{Empty}
 use Rattle.index_hash.specs.Home.{home}
 use Rattle.index_hash.specs.Block.{empty_from, empty_cell}
 use Rattle.index_hash.proofs.Empty.{by_test, set_cell}
@@ -94,7 +94,7 @@ module _ (h : List ℕ) where
       (λ t. bit_cleared m c l b used tells)
 
   -- the first empty cell is the page's
-  pub found_way : (m : List ℕ) (page from c : ℕ) → from ≡ home page → Tells h m → c < 8192 → Way (ClearCell m) 8192 from c → get_or h c 0 ≡ 0 → Empty c ≡ empty_cell h page
+  pub found_way : (m : List ℕ) (page from c : ℕ) → from ≡ home page → Tells h m → c < 8192 → Way (ClearCell m) 8192 from c → get_or h c 0 ≡ 0 → Some c ≡ empty_cell h page
   unfolding empty_cell
   found_way m page from c e tells b way z = rw (sym e) (go (dec_lt c from))
     where
@@ -104,7 +104,7 @@ module _ (h : List ℕ) where
       used : Way (Used h) 8192 from c
       used = way_map (ClearCell m) (Used h) 8192 from c (omega arith) tells.cells way
 
-      go : Dec (c < from) → Empty c ≡ empty_from 8192 h from
+      go : Dec (c < from) → Some c ≡ empty_from 8192 h from
       go (yes s) = found_round h from below c s (used.1 s).0 (used.1 s).1 z
       go (no s) = found_on h from below c (omega arith) b (used.0 (omega arith)) z
 

@@ -37,14 +37,6 @@ pub way_map : (P Q : ℕ → Type 0) (size from to : ℕ) → to ≤ size → ((
 way_map P Q size from to l f w =
     (λ x c a b. f c (omega arith) (w.0 x c a b), λ x. (λ c a b. f c (omega arith) ((w.1 x).0 c a b), λ c a b. f c (omega arith) ((w.1 x).1 c a b)))
 
--- the words whose bits are in the lower word, and those whose bits are in the upper one
-module _ (low high a b : ℕ) where
-  pub low_clear : b ≤ 64 → All (Clear low) a b → All (ClearWord low high) a b
-  low_clear l all w x y = (λ s. all w x y, λ s. absurd (omega arith))
-
-  pub high_clear : All (Clear high) a b → All (ClearWord low high) (64 + a) (64 + b)
-  high_clear all w x y = (λ s. absurd (omega arith), λ s. all (w - 64) (omega arith) (omega arith))
-
 module _ (m : List ℕ) where
   -- the cells of a word
   pub cells_clear : (w a b : ℕ) → b ≤ 64 → All (Clear (get_or m w 0)) a b → All (ClearCell m) (64 * w + a) (64 * w + b)

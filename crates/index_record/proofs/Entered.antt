@@ -11,8 +11,7 @@ use Rattle.wal_types.specs.declared.Header.{Header}
 use Rattle.wal_types.specs.Memory.{Memory, to_header, to_page, to_frame_cell, frame_index_len_cell, header_with}
 use Rattle.wal_types.specs.Store.{apply, one, when, ◌then◌}
 use Rattle.wal_types.proofs.Stores.{then_leaves, when_leaves, when_not}
-use Rattle.index_hash.specs.declared.Cell.{Cell}
-use Rattle.index_hash.specs.declared.Cell.TheVariants.{Empty}
+use Rattle.std.specs.Prelude.{Option, Some}
 use Rattle.index_hash.specs.Home.{home}
 use Rattle.index_hash.specs.Block.{cleared, empty_from, empty_cell, inserted}
 use Rattle.index_hash.proofs.Built.{cleared_empty}
@@ -22,12 +21,12 @@ use Rattle.index_record.specs.Record.{enter}
 use Rattle.index_find.proofs.Blocks.{block_of_with, length_with, with_with, set_in_block}
 
 -- an empty cell ends the search for one
-empty_here : (left : ℕ) (h : List ℕ) (cell : ℕ) → get_or h cell 0 ≡ 0 → empty_from (suc left) h cell ≡ Empty cell
+empty_here : (left : ℕ) (h : List ℕ) (cell : ℕ) → get_or h cell 0 ≡ 0 → empty_from (suc left) h cell ≡ Some cell
 unfolding empty_from
 empty_here left h cell e = rw (eq-eqb _ _ e)
 
 -- In a cleared table an entry goes to its page's home.
-pub cleared_cell : (page : ℕ) → empty_cell cleared page ≡ Empty (home page)
+pub cleared_cell : (page : ℕ) → empty_cell cleared page ≡ Some (home page)
 unfolding empty_cell
 cleared_cell page = empty_here 8191 cleared (home page) (cleared_empty (home page))
 
@@ -55,10 +54,10 @@ module _ (z : Memory) (h : Header) (ps fs : List ℕ) where
         ∙ zeros_applied 8192 (take (8192 * k) hs) (drop (8192 * k) hs) (8192 * k) (length-take-le (8192 * k) hs (omega arith)) (simp length-drop (omega arith))
 
   -- naming an entry in the cell found for it
-  pub insert_applied : (hs : List ℕ) (n page c : ℕ) → 8192 * block_of n + 8192 ≤ length hs → empty_cell (block_cells_of (block_of n) hs) page ≡ Empty c
+  pub insert_applied : (hs : List ℕ) (n page c : ℕ) → 8192 * block_of n + 8192 ≤ length hs → empty_cell (block_cells_of (block_of n) hs) page ≡ Some c
       → apply (insert_entry n page (index_in z h ps fs hs)) (index_in z h ps fs hs) ≡ index_in z h ps fs (with_block (block_of n) (set (block_cells_of (block_of n) hs) c (place_of n + 1)) hs)
   insert_applied hs n page c fits e =
-      ap (λ (x : Cell). apply (name_stores (block_of n) (place_of n) x) (index_in z h ps fs hs)) e
+      ap (λ (x : Option ℕ). apply (name_stores (block_of n) (place_of n) x) (index_in z h ps fs hs)) e
       ∙ ap (index_in z h ps fs) (set_in_block (block_of n) hs fits c (place_of n + 1) (found_below (block_cells_of (block_of n) hs) page c e))
 
 module _ (z : Memory) (h : Header) (ps fs hs : List ℕ) (n page frame : ℕ) (fits : 8192 * block_of n + 8192 ≤ length hs) where
@@ -81,7 +80,7 @@ module _ (z : Memory) (h : Header) (ps fs hs : List ℕ) (n page frame : ℕ) (f
   -- the first entry of a block
   pub enter_first : place_of n ≡ 0 → apply (enter n page frame (index_in z h ps fs hs)) (index_in z h ps fs hs) ≡ index_in z longer_header (set ps n page) (set fs n frame) (with_block k (inserted cleared 0 page) hs)
   enter_first first =
-      let at_home : empty_cell (block_cells_of k (with_block k cleared hs)) page ≡ Empty (home page) = ap (λ (x : List ℕ). empty_cell x page) (block_of_with k hs fits cleared length_cleared) ∙ cleared_cell page in
+      let at_home : empty_cell (block_cells_of k (with_block k cleared hs)) page ≡ Some (home page) = ap (λ (x : List ℕ). empty_cell x page) (block_of_with k hs fits cleared length_cleared) ∙ cleared_cell page in
       let named : set (block_cells_of k (with_block k cleared hs)) (home page) (place_of n + 1) ≡ inserted cleared 0 page = rw (block_of_with k hs fits cleared length_cleared, first) (sym (inserted_at cleared 0 page (home page) (cleared_cell page))) in
       enter_rest (with_block k cleared hs) (with_block k (inserted cleared 0 page) hs)
       (when_leaves (eqb (place_of n) 0) (clear_block k) (index_in z h ps fs hs) (eq-eqb _ _ first) (clear_applied z h ps fs hs k fits))
@@ -89,15 +88,16 @@ module _ (z : Memory) (h : Header) (ps fs hs : List ℕ) (n page frame : ℕ) (f
       ∙ ap (index_in z h (set ps n page) (set fs n frame)) (ap (λ (x : List ℕ). with_block k x (with_block k cleared hs)) named ∙ with_with k hs fits cleared (inserted cleared 0 page) length_cleared))
 
   -- an entry that is not the first of its block
-  pub enter_next : (c : ℕ) → (place_of n ≡ 0 → ⊥) → empty_cell (block_cells_of k hs) page ≡ Empty c → apply (enter n page frame (index_in z h ps fs hs)) (index_in z h ps fs hs) ≡ index_in z longer_header (set ps n page) (set fs n frame) (with_block k (set (block_cells_of k hs) c (place_of n + 1)) hs)
+  pub enter_next : (c : ℕ) → (place_of n ≡ 0 → ⊥) → empty_cell (block_cells_of k hs) page ≡ Some c → apply (enter n page frame (index_in z h ps fs hs)) (index_in z h ps fs hs) ≡ index_in z longer_header (set ps n page) (set fs n frame) (with_block k (set (block_cells_of k hs) c (place_of n + 1)) hs)
   enter_next c first e =
       enter_rest hs (with_block k (set (block_cells_of k hs) c (place_of n + 1)) hs)
       (when_not (eqb (place_of n) 0) (clear_block k) (index_in z h ps fs hs) (ne_eqb _ _ first))
       (insert_applied z h (set ps n page) (set fs n frame) hs n page c fits e)
 
--- a block's hash, cleared and with its first entry's page named at its home
-pub first_hash : (k : ℕ) (hs hs1 hs2 : List ℕ) (page cell : ℕ) → 8192 * k + 8192 ≤ length hs → hs1 ≡ with_block k cleared hs → cell ≡ home page → hs2 ≡ with_block k (set (block_cells_of k hs1) cell (0 + 1)) hs1 → hs2 ≡ with_block k (inserted cleared 0 page) hs
-first_hash k hs hs1 hs2 page cell fits e c f =
-    f
-    ∙ rw (e, c, block_of_with k hs fits cleared length_cleared, inserted_at cleared 0 page (home page) (cleared_cell page))
-    (with_with k hs fits cleared (set cleared (home page) (0 + 1)) length_cleared)
+-- a block's hash, cleared and with an entry named in one of its cells
+pub first_hash : (k : ℕ) (hs hs1 hs2 : List ℕ) (cell v : ℕ) → 8192 * k + 8192 ≤ length hs → hs1 ≡ with_block k cleared hs → hs2 ≡ with_block k (set (block_cells_of k hs1) cell v) hs1 → hs2 ≡ with_block k (set cleared cell v) hs
+first_hash k hs hs1 hs2 cell v fits e f = f ∙ rw (e, block_of_with k hs fits cleared length_cleared) (with_with k hs fits cleared (set cleared cell v) length_cleared)
+
+-- the first entry of a block goes to its page's home
+pub first_named : (page n : ℕ) → place_of n ≡ 0 → inserted cleared 0 page ≡ set cleared (home page) (place_of n + 1)
+first_named page n first = rw (inserted_at cleared 0 page (home page) (cleared_cell page), first)

@@ -9,7 +9,7 @@ use Rattle.wal_types.specs.declared.Header.{Header}
 use Rattle.wal_types.specs.Settings.{entries_for}
 use Rattle.wal_types.specs.Memory.{frame_index_len_cell, frame_index_overflowed_cell, frame_index_blocks_cell}
 use Rattle.index_end.specs.declared.cells.IndexCells.{IndexCells}
-use Rattle.index_end.specs.declared.place.Place.TheVariants.{AtEnd, NoPlace}
+use Rattle.std.specs.Prelude.{Some, None}
 use Rattle.index_find.specs.Index.{HasRoom}
 use Rattle.index_end.specs.Cells.{cells_of, cells_with}
 use Rattle.index_end.specs.Place.{resets, started, blocks_full, placed}
@@ -35,7 +35,7 @@ module _ (frame : ℕ) (h : Header) where
 
 -- the place of an entry, by the tests that lead to it
 at_end_by : (capacity b : ℕ) (grow : Bool) (s g : IndexCells) (full no_more beyond : Bool) → leb capacity s.frame_index_len ≡ beyond → blocks_full s ≡ full → leb b s.frame_index_blocks ≡ no_more
-    → cond (beyond || (full && (no_more || not grow))) NoPlace (AtEnd (cond full (cells_with frame_index_blocks_cell (s.frame_index_blocks + 1) s) s)) ≡ AtEnd g
+    → cond (beyond || (full && (no_more || not grow))) None (Some (cond full (cells_with frame_index_blocks_cell (s.frame_index_blocks + 1) s) s)) ≡ Some g
     → s.frame_index_len ≤ 4096 * s.frame_index_blocks → s.frame_index_blocks ≤ b
     → (g.frame_index_len < capacity) × (g.frame_index_len < 4096 * b)
 at_end_by capacity b grow s g full no_more true l f n e i j = let z : ◌≡◌ {A = ℕ} 0 1 = cc in absurd (omega arith)
@@ -55,7 +55,7 @@ at_end_by capacity b grow s g false no_more false l f n e i j =
     (omega arith, omega arith)
 
 -- a place has room in memory that is long enough
-pub place_room : (capacity b frame : ℕ) (grow : Bool) (h : Header) (g : IndexCells) (pages frames hash : ℕ) → GoodSettings capacity b h → LongEnough b pages frames hash → placed capacity b grow (started frame h) ≡ AtEnd g → HasRoom g.frame_index_len pages frames hash
+pub place_room : (capacity b frame : ℕ) (grow : Bool) (h : Header) (g : IndexCells) (pages frames hash : ℕ) → GoodSettings capacity b h → LongEnough b pages frames hash → placed capacity b grow (started frame h) ≡ Some g → HasRoom g.frame_index_len pages frames hash
 unfolding placed
 place_room capacity b frame grow h g pages frames hash good long e =
     let s = started frame h in

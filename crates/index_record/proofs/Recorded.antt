@@ -8,14 +8,14 @@ use borrow.Author.Tests.{eq-eqb, ne_eqb}
 use Rattle.wal_types.specs.declared.Header.{Header}
 use Rattle.wal_types.specs.Memory.{Memory, Process, to_header, frame_index_len_cell, frame_index_overflowed_cell, frame_index_blocks_cell}
 use Rattle.wal_types.specs.Store.{apply, one, when, ◌then◌}
-use Rattle.wal_types.specs.Refusal.{Test, lowest, ◌if◌, frame_order, hash_full}
+use Rattle.wal_types.specs.Refusal.{Test, lowest, ◌if◌}
+use Rattle.wal_types.specs.declared.refusal.Refusal.TheVariants.{FrameOrder, HashFull}
 use Rattle.wal_types.specs.Call.{refused, stored, dropped, done, after, unless}
 use Rattle.wal_types.proofs.Stores.{then_leaves}
 use Rattle.wal_types.proofs.Refusals.{call_accepted}
-use Rattle.index_hash.specs.declared.Cell.TheVariants.{Empty, Full}
+use Rattle.std.specs.Prelude.{Some, None}
 use Rattle.index_hash.specs.Block.{cleared, empty_cell, inserted}
 use Rattle.index_end.specs.declared.cells.IndexCells.{IndexCells}
-use Rattle.index_end.specs.declared.place.Place.TheVariants.{AtEnd, NoPlace}
 use Rattle.index_find.specs.Index.{block_of, place_of, block_cells_of, with_block, index_refusal, index_in}
 use Rattle.index_end.specs.Cells.{cells_of, cells_with, with_cells}
 use Rattle.index_end.specs.Place.{resets, started, blocks_full, drops, placed, out_of_order}
@@ -24,15 +24,15 @@ use Rattle.index_find.proofs.Refused.{index_refused, index_passed}
 use Rattle.index_record.proofs.Entered.{enter_first, enter_next}
 
 -- what the place tells of the tests
-no_place : (d : Bool) (x : IndexCells) → cond d NoPlace (AtEnd x) ≡ NoPlace → d ≡ true
+no_place : (d : Bool) (x : IndexCells) → cond d None (Some x) ≡ None → d ≡ true
 no_place true x e = refl
 no_place false x e = let z : ◌≡◌ {A = Bool} false true = cc in z
 
-has_place : (d : Bool) (x g : IndexCells) → cond d NoPlace (AtEnd x) ≡ AtEnd g → d ≡ false
+has_place : (d : Bool) (x g : IndexCells) → cond d None (Some x) ≡ Some g → d ≡ false
 has_place true x g e = let z : ◌≡◌ {A = Bool} true false = cc in z
 has_place false x g e = refl
 
-place_is : (d : Bool) (x g : IndexCells) → cond d NoPlace (AtEnd x) ≡ AtEnd g → x ≡ g
+place_is : (d : Bool) (x g : IndexCells) → cond d None (Some x) ≡ Some g → x ≡ g
 place_is true x g e = let z : x ≡ g = cc in z
 place_is false x g e = let z : x ≡ g = cc in z
 
@@ -50,8 +50,8 @@ module _ (capacity b page frame : ℕ) (grow : Bool) (z : Memory) (h : Header) (
 
   abbrev own : Memory → Process → List Test
   own m p =
-      (frame_order if (not (drops capacity b grow (started frame m.header)) && out_of_order frame (started frame m.header).frame_index_len m.frames))
-      ∷ (hash_full if (not (drops capacity b grow (started frame m.header)) && no_cell (started frame m.header).frame_index_len page m.hash))
+      (FrameOrder if (not (drops capacity b grow (started frame m.header)) && out_of_order frame (started frame m.header).frame_index_len m.frames))
+      ∷ (HashFull if (not (drops capacity b grow (started frame m.header)) && no_cell (started frame m.header).frame_index_len page m.hash))
       ∷ []
 
   abbrev number_of : ℕ
@@ -76,13 +76,13 @@ module _ (capacity b page frame : ℕ) (grow : Bool) (z : Memory) (h : Header) (
         go false = refl
 
     -- no place: dropped, with the flag set
-    pub record_dropped : placed capacity b grow s ≡ NoPlace → after (record_frame capacity b page frame grow) m p ≡ done dropped (index_in z (with_cells (cells_with frame_index_overflowed_cell 1 s) h) ps fs hs) p
+    pub record_dropped : placed capacity b grow s ≡ None → after (record_frame capacity b page frame grow) m p ≡ done dropped (index_in z (with_cells (cells_with frame_index_overflowed_cell 1 s) h) ps fs hs) p
     unfolding placed
     record_dropped e =
         let d = no_place (drops capacity b grow s) _ e in
         to_own ∙ rw d (ap (λ (x : Memory). done dropped x p) (then_leaves (when (resets frame h) reset_index) (one (to_header frame_index_overflowed_cell 1)) m reset_applied refl))
 
-    module _ (g : IndexCells) (at_end : placed capacity b grow s ≡ AtEnd g) where
+    module _ (g : IndexCells) (at_end : placed capacity b grow s ≡ Some g) where
       abbrev n : ℕ
       n = g.frame_index_len
 
@@ -102,7 +102,7 @@ module _ (capacity b page frame : ℕ) (grow : Bool) (z : Memory) (h : Header) (
       record_out_of_order o = to_own ∙ rw (not_dropped, len_same, o)
 
       -- no empty cell: refused 4
-      pub record_full : out_of_order frame n fs ≡ false → (place_of n ≡ 0 → ⊥) → empty_cell (block_cells_of (block_of n) hs) page ≡ Full → after (record_frame capacity b page frame grow) m p ≡ done (refused 4) m p
+      pub record_full : out_of_order frame n fs ≡ false → (place_of n ≡ 0 → ⊥) → empty_cell (block_cells_of (block_of n) hs) page ≡ None → after (record_frame capacity b page frame grow) m p ≡ done (refused 4) m p
       record_full o first e = to_own ∙ rw (not_dropped, len_same, o, ne_eqb _ _ first, e)
 
       grow_applied : apply (when (blocks_full s) grow_index (index_in z (with_cells s h) ps fs hs)) (index_in z (with_cells s h) ps fs hs) ≡ index_in z (with_cells g h) ps fs hs
@@ -136,7 +136,7 @@ module _ (capacity b page frame : ℕ) (grow : Bool) (z : Memory) (h : Header) (
           stored_by _ (rw (not_dropped, len_same, o, eq-eqb _ _ first)) (enter_first z (with_cells g h) ps fs hs n page frame fits first)
 
       -- stored, in the cell found for it
-      pub record_next : (c : ℕ) → out_of_order frame n fs ≡ false → (place_of n ≡ 0 → ⊥) → 8192 * block_of n + 8192 ≤ length hs → empty_cell (block_cells_of (block_of n) hs) page ≡ Empty c
+      pub record_next : (c : ℕ) → out_of_order frame n fs ≡ false → (place_of n ≡ 0 → ⊥) → 8192 * block_of n + 8192 ≤ length hs → empty_cell (block_cells_of (block_of n) hs) page ≡ Some c
           → after (record_frame capacity b page frame grow) m p ≡ done stored (index_in z (with_cells (cells_with frame_index_len_cell (n + 1) g) h) (set ps n page) (set fs n frame) (with_block (block_of n) (set (block_cells_of (block_of n) hs) c (place_of n + 1)) hs)) p
       record_next c o first fits e =
           stored_by _ (rw (not_dropped, len_same, o, ne_eqb _ _ first, e)) (enter_next z (with_cells g h) ps fs hs n page frame fits c first e)

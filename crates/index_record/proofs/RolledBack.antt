@@ -13,7 +13,7 @@ use Rattle.wal_types.specs.Store.{apply, one, ◌then◌}
 use Rattle.wal_types.specs.Refusal.{Test}
 use Rattle.wal_types.specs.Call.{Call, refused, kept, does, done, after}
 use Rattle.wal_types.proofs.Stores.{then_leaves, when_leaves, when_not}
-use Rattle.index_hash.specs.declared.Cell.TheVariants.{Empty}
+use Rattle.std.specs.Prelude.{Some}
 use Rattle.index_hash.specs.Block.{empty_cell, built}
 use Rattle.index_hash.proofs.Empty.{inserted_at}
 use Rattle.index_hash.proofs.Built.{built_none, built_next, built_length}
@@ -33,7 +33,7 @@ module _ (z : Memory) (h : Header) (ps fs hs : List ℕ) (k : ℕ) (fits : 8192 
   at i = index_in z h ps fs (with_block k (built bp i) hs)
 
   -- one entry of the block is inserted, in the cell found for it
-  insert_at : (i n c : ℕ) → i < 4096 → n ≡ 4096 * k + i → empty_cell (built bp i) (get_or bp i 0) ≡ Empty c → apply (insert_entry n (get_or ps n 0) (at i)) (at i) ≡ at (i + 1)
+  insert_at : (i n c : ℕ) → i < 4096 → n ≡ 4096 * k + i → empty_cell (built bp i) (get_or bp i 0) ≡ Some c → apply (insert_entry n (get_or ps n 0) (at i)) (at i) ≡ at (i + 1)
   insert_at i n c l e found =
       let kn : block_of n ≡ k = omega arith in
       let pn : place_of n ≡ i = omega arith in

@@ -7,8 +7,7 @@ use Rattle.wal_types.specs.Memory.{IndexPart, frame_index_blocks_cell, frame_ind
 use Rattle.wal_types.specs.Store.{one, when, ◌then◌}
 use Rattle.wal_types.specs.Call.{stored, dropped, kept, does}
 use Rattle.wal_types.proofs.Every.{Every, EveryOf, EveryOfCall, every_then, every_when, every_cond_of, every_unless}
-use Rattle.index_hash.specs.declared.Cell.{Cell}
-use Rattle.index_hash.specs.declared.Cell.TheVariants.{Empty, Full}
+use Rattle.std.specs.Prelude.{Option, Some, None}
 use Rattle.index_hash.specs.Block.{empty_cell}
 use Rattle.index_find.specs.Index.{index_tests, block_of, place_of, block_cells_of, zero_stores, clear_block, name_stores, insert_entry, insert_entries}
 use Rattle.index_end.specs.Place.{started, blocks_full, drops, resets}
@@ -25,9 +24,9 @@ module _ (P : Store → Type 0) (blocks : (v : ℕ) → P (to_header frame_index
   clears : (k : ℕ) → EveryOf P (clear_block k)
   clears k m = zeros 8192 (8192 * k)
 
-  names : (k place : ℕ) (c : Cell) → Every P (name_stores k place c)
-  names k place (Empty cell) = (part _ _ _, tt)
-  names k place Full = tt
+  names : (k place : ℕ) (c : Option ℕ) → Every P (name_stores k place c)
+  names k place (Some cell) = (part _ _ _, tt)
+  names k place None = tt
 
   inserts : (n page : ℕ) → EveryOf P (insert_entry n page)
   inserts n page m = names (block_of n) (place_of n) (empty_cell (block_cells_of (block_of n) m.hash) page)

@@ -1,30 +1,29 @@
 -- record_frame (document 01, "record_frame"). Assumes nothing.
-use Rattle.std.specs.Prelude.{Bool, true, false, not, ◌&&◌, cond, List, [], ◌∷◌, ◌++◌, ℕ, ◌+◌, eqb}
+use Rattle.std.specs.Prelude.{Result, Ok, Err, Bool, is_none, not, ◌&&◌, cond, List, [], ◌∷◌, ◌++◌, ℕ, ◌+◌, eqb}
 use Rattle.wal_types.specs.Memory.{Memory, to_header, frame_index_len_cell, frame_index_overflowed_cell, frame_index_blocks_cell, to_page, to_frame_cell}
 use Rattle.wal_types.specs.Store.{Piece, one, when, ◌then◌}
-use Rattle.wal_types.specs.Refusal.{Test, ◌if◌, frame_order, hash_full}
+use Rattle.wal_types.specs.Refusal.{Test, ◌if◌, number}
+use Rattle.wal_types.specs.declared.Header.{Header}
+use Rattle.wal_types.specs.declared.refusal.Refusal.{Refusal}
+use Rattle.wal_types.specs.declared.refusal.Refusal.TheVariants.{FrameOrder, HashFull}
 use Rattle.wal_types.specs.Call.{Call, Answer, refused, stored, dropped, does, unless}
-use Rattle.index_hash.specs.declared.Cell.{Cell}
-use Rattle.index_hash.specs.declared.Cell.TheVariants.{Empty, Full}
 use Rattle.index_hash.specs.Block.{empty_cell}
-use Rattle.index_record.specs.declared.record.RecordAnswer.{RecordAnswer}
-use Rattle.index_record.specs.declared.record.RecordAnswer.TheVariants.{Stored, Dropped, Refused}
+use Rattle.index_record.specs.declared.record.Recorded.{Recorded}
+use Rattle.index_record.specs.declared.record.Recorded.TheVariants.{Stored, Dropped}
 use Rattle.index_find.specs.Index.{index_tests, block_of, place_of, block_cells_of, clear_block, insert_entry}
+use Rattle.index_end.specs.declared.cells.IndexCells.{IndexCells}
+use Rattle.index_end.specs.Cells.{cells_of}
 use Rattle.index_end.specs.Place.{resets, started, blocks_full, drops, out_of_order}
-
-abbrev pub is_full : Cell → Bool
-is_full (Empty cell) = false
-is_full Full = true
 
 -- no empty cell for entry n's page; the first entry of a block has its hash cleared
 abbrev pub no_cell : ℕ → ℕ → List ℕ → Bool
-no_cell n page hash = not (eqb (place_of n) 0) && is_full (empty_cell (block_cells_of (block_of n) hash) page)
+no_cell n page hash = not (eqb (place_of n) 0) && is_none (empty_cell (block_cells_of (block_of n) hash) page)
 
 abbrev pub record_tests : ℕ → ℕ → ℕ → ℕ → Bool → Memory → List Test
 record_tests capacity b page frame grow m =
     index_tests capacity b m
-    ++ ((frame_order if (not (drops capacity b grow (started frame m.header)) && out_of_order frame (started frame m.header).frame_index_len m.frames))
-    ∷ (hash_full if (not (drops capacity b grow (started frame m.header)) && no_cell (started frame m.header).frame_index_len page m.hash))
+    ++ ((FrameOrder if (not (drops capacity b grow (started frame m.header)) && out_of_order frame (started frame m.header).frame_index_len m.frames))
+    ∷ (HashFull if (not (drops capacity b grow (started frame m.header)) && no_cell (started frame m.header).frame_index_len page m.hash))
     ∷ [])
 
 -- The reset: length and flag 0.
@@ -67,8 +66,14 @@ unfoldable pub record_frame : ℕ → ℕ → ℕ → ℕ → Bool → Call
 record_frame capacity b page frame grow =
     unless (λ m p. record_tests capacity b page frame grow m) (records capacity b page frame grow)
 
--- What each case of the answer tells.
-abbrev pub record_answer : RecordAnswer → Answer
-record_answer Stored = stored
-record_answer Dropped = dropped
-record_answer (Refused n) = refused n
+-- What each case of the result tells.
+abbrev pub record_answer : Result Recorded Refusal → Answer
+record_answer (Ok (Stored cells)) = stored
+record_answer (Ok (Dropped cells)) = dropped
+record_answer (Err r) = refused (number r)
+
+-- The index's cells that the call leaves: a refused one leaves the header's own.
+abbrev pub record_left : Header → Result Recorded Refusal → IndexCells
+record_left h (Ok (Stored cells)) = cells
+record_left h (Ok (Dropped cells)) = cells
+record_left h (Err r) = cells_of h

@@ -13,10 +13,9 @@ use Rattle.wal_types.specs.declared.Header.{Header}
 use Rattle.wal_types.specs.Settings.{within}
 use Rattle.wal_types.specs.Call.{Pair, pair}
 use Rattle.index_search.specs.InnerRun.{All}
-use Rattle.index_find.specs.declared.find.Lookup.{Lookup}
-use Rattle.index_find.specs.declared.find.Lookup.TheVariants.{Frame, NoFrame}
+use Rattle.std.specs.Prelude.{Option, Some, None, Result, Ok, Err}
 use Rattle.index_find.specs.Index.{entries_refusal, EntriesCall}
-use Rattle.index_find.specs.Find.{else_look, lookup_answer}
+use Rattle.index_find.specs.Find.{else_look}
 use Rattle.index_grown.specs.Entries.{entries_of, up_to, frame_in}
 use Rattle.index_grown.proofs.Lists.{here, not_here, frame_above, frame_given}
 use Rattle.index_grown.proofs.Views.{SameView}
@@ -24,69 +23,70 @@ use Rattle.index_grown.proofs.Entries.{entry, entries_next, entries_length}
 use Rattle.index_scan.specs.Between.{before_frames, frames_between, chosen, frame_chosen, frame_between, Undecided, IsBetween, BetweenTold, BetweenChoices}
 use Rattle.index_scan.specs.Scan.{scan_answer}
 use Rattle.index_scan.specs.InnerScan.{OtherPage, last_among}
-use Rattle.index_scan.specs.declared.ScanAnswer.{ScanAnswer}
-use Rattle.index_scan.specs.declared.ScanAnswer.TheVariants.{Frame as ScanFrame, NoFrame as ScanNone, Refused}
+use Rattle.wal_types.specs.declared.refusal.Refusal.{Refusal}
+use Rattle.wal_types.specs.Refusal.{number}
+use Rattle.wal_types.proofs.Refusals.{number_not_zero}
 use Rattle.index_scan.proofs.Scanned.{scan_refused, scan_answers, along}
 
 -- CHOICES
 -- behind others, the last is chosen by a number that is not below theirs
-chosen_last : (choice : ℕ) (l : List ℕ) (f : ℕ) → length l ≤ choice → chosen choice (l ++ (f ∷ [])) ≡ Frame f
+chosen_last : (choice : ℕ) (l : List ℕ) (f : ℕ) → length l ≤ choice → chosen choice (l ++ (f ∷ [])) ≡ Some f
 unfolding chosen
 chosen_last zero [] f le = refl
 chosen_last (suc choice) [] f le = refl
 chosen_last zero (g ∷ l) f le = absurd (omega arith)
-chosen_last (suc choice) (g ∷ l) f le = ap (λ (x : Lookup). else_look x (Frame g)) (chosen_last choice l f (omega arith))
+chosen_last (suc choice) (g ∷ l) f le = ap (λ (x : Option ℕ). else_look x (Some g)) (chosen_last choice l f (omega arith))
 
 -- a greater number past the last chooses no other
 chosen_past : (choice : ℕ) (l : List ℕ) → length l ≤ choice → chosen (suc choice) l ≡ chosen choice l
 unfolding chosen
 chosen_past choice [] le = refl
 chosen_past zero (g ∷ l) le = absurd (omega arith)
-chosen_past (suc choice) (g ∷ l) le = ap (λ (x : Lookup). else_look x (Frame g)) (chosen_past choice l (omega arith))
+chosen_past (suc choice) (g ∷ l) le = ap (λ (x : Option ℕ). else_look x (Some g)) (chosen_past choice l (omega arith))
 
 -- what is chosen is one of them
-chosen_of : (choice : ℕ) (l : List ℕ) (f : ℕ) → chosen choice l ≡ Frame f → Memᴰ f l
+chosen_of : (choice : ℕ) (l : List ℕ) (f : ℕ) → chosen choice l ≡ Some f → Memᴰ f l
 unfolding chosen
 chosen_of choice [] f e = let z : ◌≡◌ {A = ℕ} 0 1 = cc in absurd (omega arith)
 chosen_of zero (g ∷ l) f e = let s : f ≡ g = cc in Memᴰ.head s
 chosen_of (suc choice) (g ∷ l) f e = go (chosen choice l) (chosen_of choice l f) e
   where
-    go : (r : Lookup) → (r ≡ Frame f → Memᴰ f l) → else_look r (Frame g) ≡ Frame f → Memᴰ f (g ∷ l)
-    go (Frame h) rest e = Memᴰ.tail (rest e)
-    go NoFrame rest e = let s : f ≡ g = cc in Memᴰ.head s
+    go : (r : Option ℕ) → (r ≡ Some f → Memᴰ f l) → else_look r (Some g) ≡ Some f → Memᴰ f (g ∷ l)
+    go (Some h) rest e = Memᴰ.tail (rest e)
+    go None rest e = let s : f ≡ g = cc in Memᴰ.head s
 
 -- each of them is chosen
-choice_for : (l : List ℕ) (f : ℕ) → Memᴰ f l → (choice : ℕ) × (chosen choice l ≡ Frame f)
+choice_for : (l : List ℕ) (f : ℕ) → Memᴰ f l → (choice : ℕ) × (chosen choice l ≡ Some f)
 unfolding chosen
 choice_for [] f m = absurd (Memᴰ.not-nil m)
 choice_for (g ∷ l) f m =
     elim (Memᴰ.cases_cons m) [
-      | inl e ↦ (0, ap Frame (sym e))
-      | inr i ↦ let r = choice_for l f i in (suc r.0, ap (λ (x : Lookup). else_look x (Frame g)) r.1)
+      | inl e ↦ (0, ap Some (sym e))
+      | inr i ↦ let r = choice_for l f i in (suc r.0, ap (λ (x : Option ℕ). else_look x (Some g)) r.1)
     ]
 
 -- none is chosen only of none
-chosen_none : (choice : ℕ) (l : List ℕ) → chosen choice l ≡ NoFrame → l ≡ []
+chosen_none : (choice : ℕ) (l : List ℕ) → chosen choice l ≡ None → l ≡ []
 unfolding chosen
 chosen_none choice [] e = refl
 chosen_none zero (g ∷ l) e = let z : ◌≡◌ {A = ℕ} 0 1 = cc in absurd (omega arith)
 chosen_none (suc choice) (g ∷ l) e = go (chosen choice l) e
   where
-    go : (r : Lookup) → else_look r (Frame g) ≡ NoFrame → (g ∷ l) ≡ []
-    go (Frame h) e = let z : ◌≡◌ {A = ℕ} 0 1 = cc in absurd (omega arith)
-    go NoFrame e = let z : ◌≡◌ {A = ℕ} 0 1 = cc in absurd (omega arith)
+    go : (r : Option ℕ) → else_look r (Some g) ≡ None → (g ∷ l) ≡ []
+    go (Some h) e = let z : ◌≡◌ {A = ℕ} 0 1 = cc in absurd (omega arith)
+    go None e = let z : ◌≡◌ {A = ℕ} 0 1 = cc in absurd (omega arith)
 
 module _ (page low high : ℕ) where
   abbrev between : List Pair → List ℕ
   between es = frames_between es page low high
 
-  abbrev given_by : Pair → Lookup
+  abbrev given_by : Pair → Option ℕ
   given_by q = frame_in page low high q
 
   -- THE FRAMES BETWEEN, of one pair more
-  before_append : (x : Lookup) (a b : List ℕ) → before_frames x (a ++ b) ≡ before_frames x a ++ b
-  before_append (Frame f) a b = refl
-  before_append NoFrame a b = refl
+  before_append : (x : Option ℕ) (a b : List ℕ) → before_frames x (a ++ b) ≡ before_frames x a ++ b
+  before_append (Some f) a b = refl
+  before_append None a b = refl
 
   between_more : (l : List Pair) (q : Pair) → between (l ++ (q ∷ [])) ≡ between l ++ before_frames (given_by q) []
   unfolding frames_between
@@ -99,9 +99,9 @@ module _ (page low high : ℕ) where
   between_fewer [] = omega arith
   between_fewer (q ∷ l) = go (given_by q) (between_fewer l)
     where
-      go : (x : Lookup) → length (between l) ≤ length l → length (before_frames x (between l)) ≤ suc (length l)
-      go (Frame f) le = omega arith
-      go NoFrame le = omega arith
+      go : (x : Option ℕ) → length (between l) ≤ length l → length (before_frames x (between l)) ≤ suc (length l)
+      go (Some f) le = omega arith
+      go None le = omega arith
 
   -- only the pairs up to a bound that is not below the upper one matter
   between_up_to : (bound : ℕ) → high ≤ bound → (l : List Pair) → between (up_to bound l) ≡ between l
@@ -120,11 +120,11 @@ module _ (page low high : ℕ) where
   between_has (q ∷ l) f is =
       go (given_by q) refl (Memᴰ.cases_cons is.of_page) (λ m. between_has l f (record { of_page = m; from_low = is.from_low; to_high = is.to_high }))
     where
-      go : (x : Lookup) → given_by q ≡ x → (pair page f ≡ q) ⊎ Memᴰ (pair page f) l → (Memᴰ (pair page f) l → Memᴰ f (between l)) → Memᴰ f (before_frames x (between l))
-      go (Frame g) e (inl s) rest = let t : f ≡ g = ap (λ (x : Pair). x.frame) s ∙ (frame_given page low high q g e).1.0 in Memᴰ.head t
-      go (Frame g) e (inr m) rest = Memᴰ.tail (rest m)
-      go NoFrame e (inl s) rest = absurd (not_here page low high q f e s is.from_low is.to_high)
-      go NoFrame e (inr m) rest = rest m
+      go : (x : Option ℕ) → given_by q ≡ x → (pair page f ≡ q) ⊎ Memᴰ (pair page f) l → (Memᴰ (pair page f) l → Memᴰ f (between l)) → Memᴰ f (before_frames x (between l))
+      go (Some g) e (inl s) rest = let t : f ≡ g = ap (λ (x : Pair). x.frame) s ∙ (frame_given page low high q g e).1.0 in Memᴰ.head t
+      go (Some g) e (inr m) rest = Memᴰ.tail (rest m)
+      go None e (inl s) rest = absurd (not_here page low high q f e s is.from_low is.to_high)
+      go None e (inr m) rest = rest m
 
   between_only : (l : List Pair) (f : ℕ) → Memᴰ f (between l) → IsBetween l page low high f
   unfolding frames_between
@@ -132,15 +132,15 @@ module _ (page low high : ℕ) where
   between_only (q ∷ l) f m =
       go (given_by q) refl m (λ i. let r = between_only l f i in record { of_page = Memᴰ.tail r.of_page; from_low = r.from_low; to_high = r.to_high })
     where
-      go : (x : Lookup) → given_by q ≡ x → Memᴰ f (before_frames x (between l)) → (Memᴰ f (between l) → IsBetween (q ∷ l) page low high f) → IsBetween (q ∷ l) page low high f
-      go (Frame g) e i rest =
+      go : (x : Option ℕ) → given_by q ≡ x → Memᴰ f (before_frames x (between l)) → (Memᴰ f (between l) → IsBetween (q ∷ l) page low high f) → IsBetween (q ∷ l) page low high f
+      go (Some g) e i rest =
           elim (Memᴰ.cases_cons i) [
             | inl s ↦
-                let given = frame_given page low high q f (e ∙ ap Frame (sym s)) in
+                let given = frame_given page low high q f (e ∙ ap Some (sym s)) in
                 record { of_page = Memᴰ.head (here page low high q f given); from_low = given.1.1.0; to_high = given.1.1.1 }
             | inr j ↦ rest j
           ]
-      go NoFrame e i rest = rest i
+      go None e i rest = rest i
 
   -- none is between: there are no frames
   between_none : (l : List Pair) → ((f : ℕ) → IsBetween l page low high f → ⊥) → between l ≡ []
@@ -150,7 +150,7 @@ module _ (page low high : ℕ) where
       go [] e = e
       go (f ∷ k) e = absurd (none f (between_only l f (rw e (Memᴰ.head refl))))
 
-  chosen_of_none : (choice : ℕ) (l : List Pair) → ((f : ℕ) → IsBetween l page low high f → ⊥) → chosen choice (between l) ≡ NoFrame
+  chosen_of_none : (choice : ℕ) (l : List Pair) → ((f : ℕ) → IsBetween l page low high f → ⊥) → chosen choice (between l) ≡ None
   unfolding chosen
   chosen_of_none choice l none = rw (between_none l none)
 
@@ -172,7 +172,7 @@ between_choices es page low high =
 
 -- THE SEARCH FROM THE LAST ENTRY DOWN gives what a number not below that of the entries chooses
 module _ (ps fs : List ℕ) (page low high : ℕ) where
-  abbrev last_of : ℕ → Lookup
+  abbrev last_of : ℕ → Option ℕ
   last_of n = last_among ps fs page low high n
 
   last_next : (n : ℕ) → last_of (suc n) ≡ else_look (frame_in page low high (entry ps fs n)) (last_of n)
@@ -186,34 +186,34 @@ module _ (ps fs : List ℕ) (page low high : ℕ) where
       few : length earlier ≤ n
       few = omega (arith, between_fewer page low high (entries_of n ps fs), entries_length ps fs n)
 
-      go : (x : Lookup) → chosen (suc n) (earlier ++ before_frames x []) ≡ else_look x (chosen n earlier)
-      go (Frame f) = chosen_last (suc n) earlier f (omega (arith, few))
-      go NoFrame = ap (chosen (suc n)) (append-nil earlier) ∙ chosen_past n earlier few
+      go : (x : Option ℕ) → chosen (suc n) (earlier ++ before_frames x []) ≡ else_look x (chosen n earlier)
+      go (Some f) = chosen_last (suc n) earlier f (omega (arith, few))
+      go None = ap (chosen (suc n)) (append-nil earlier) ∙ chosen_past n earlier few
 
   -- the last entry of n gives a frame: that is it
-  last_here : (n f : ℕ) → 0 < n → frame_in page low high (entry ps fs (n - 1)) ≡ Frame f → Frame f ≡ last_of n
+  last_here : (n f : ℕ) → 0 < n → frame_in page low high (entry ps fs (n - 1)) ≡ Some f → Some f ≡ last_of n
   last_here zero f l e = absurd (omega arith)
   last_here (suc n) f l e =
       let s : suc n - 1 ≡ n = omega arith in
-      sym (last_next n ∙ ap (λ (x : Lookup). else_look x (last_of n)) (rw s at e))
+      sym (last_next n ∙ ap (λ (x : Option ℕ). else_look x (last_of n)) (rw s at e))
 
   -- it gives none: the entries before decide
-  last_before : (n : ℕ) → 0 < n → frame_in page low high (entry ps fs (n - 1)) ≡ NoFrame → last_of (n - 1) ≡ last_of n
+  last_before : (n : ℕ) → 0 < n → frame_in page low high (entry ps fs (n - 1)) ≡ None → last_of (n - 1) ≡ last_of n
   last_before zero l e = absurd (omega arith)
   last_before (suc n) l e =
       let s : suc n - 1 ≡ n = omega arith in
-      rw s (sym (last_next n ∙ ap (λ (x : Lookup). else_look x (last_of n)) (rw s at e)))
+      rw s (sym (last_next n ∙ ap (λ (x : Option ℕ). else_look x (last_of n)) (rw s at e)))
 
   -- entries of other pages are passed over
   other_passed : (n : ℕ) → OtherPage ps page n → last_of n ≡ last_of (suc n)
   other_passed n other =
-      let none : frame_in page low high (entry ps fs n) ≡ NoFrame = rw (ne_eqb _ _ other) in
-      sym (last_next n ∙ ap (λ (x : Lookup). else_look x (last_of n)) none)
+      let none : frame_in page low high (entry ps fs n) ≡ None = rw (ne_eqb _ _ other) in
+      sym (last_next n ∙ ap (λ (x : Option ℕ). else_look x (last_of n)) none)
 
   -- the turns of the search, n entries being left and w what it is to give
-  module _ (n : ℕ) (w : Lookup) (left : last_of n ≡ w) where
+  module _ (n : ℕ) (w : Option ℕ) (left : last_of n ≡ w) where
     -- entry by entry
-    pub turn_between : 0 < n → get_or ps (n - 1) 0 ≡ page → within low high (get_or fs (n - 1) 0) ≡ true → Frame (get_or fs (n - 1) 0) ≡ w
+    pub turn_between : 0 < n → get_or ps (n - 1) 0 ≡ page → within low high (get_or fs (n - 1) 0) ≡ true → Some (get_or fs (n - 1) 0) ≡ w
     turn_between l e t = last_here n _ l (rw (eq-eqb _ _ e, t)) ∙ left
 
     pub turn_beyond : 0 < n → get_or ps (n - 1) 0 ≡ page → within low high (get_or fs (n - 1) 0) ≡ false → last_of (n - 1) ≡ w
@@ -233,43 +233,32 @@ module _ (ps fs : List ℕ) (page low high : ℕ) where
       pub look_passed : All (OtherPage ps page) (n - 8) (n - 8 + 8) → last_of (n - 8) ≡ w
       look_passed others = along last_of (OtherPage ps page) other_passed (n - 8) 8 others ∙ back
 
-      pub look_found : (r : Lookup) (f : ℕ) → else_look r (last_of (n - 8)) ≡ last_of (n - 8 + 8) → r ≡ Frame f → Frame f ≡ w
-      look_found r f e g = ap (λ (x : Lookup). else_look x (last_of (n - 8))) (sym g) ∙ (e ∙ back)
-
-      pub look_without : (r : Lookup) → else_look r (last_of (n - 8)) ≡ last_of (n - 8 + 8) → r ≡ NoFrame → last_of (n - 8) ≡ w
-      look_without r e g = ap (λ (x : Lookup). else_look x (last_of (n - 8))) (sym g) ∙ (e ∙ back)
-
     -- what is left after the looks
-    pub rest_gives : (r : Lookup) → else_look r (last_of 0) ≡ last_of n → r ≡ w
+    pub rest_gives : (r : Option ℕ) → else_look r (last_of 0) ≡ last_of n → r ≡ w
     unfolding entries_of frames_between chosen
-    rest_gives r e = go r ∙ (e ∙ left)
-      where
-        go : (r : Lookup) → r ≡ else_look r NoFrame
-        go (Frame f) = refl
-        go NoFrame = refl
+    rest_gives (Some f) e = e ∙ left
+    rest_gives None e = e ∙ left
 
 -- THE CALL, by the answer that the code makes of what is found
 module _ (capacity b page low high : ℕ) (h : Header) (ps fs : List ℕ) where
-  abbrev number : ℕ
-  number = entries_refusal capacity b h (length ps) (length fs)
+  abbrev number_of : ℕ
+  number_of = entries_refusal capacity b h (length ps) (length fs)
 
   abbrev pairs : List Pair
   pairs = entries_of h.frame_index_len ps fs
 
-  abbrev Promised : ScanAnswer → Type 0
+  abbrev Promised : Result (Option ℕ) Refusal → Type 0
   Promised a = Undecided (frame_between capacity b page low high) (λ call. EntriesCall call h ps fs (scan_answer a)) × BetweenTold pairs page low high a
 
-  pub search_refused : (n : ℕ) → number ≡ n → (n ≡ 0 → ⊥) → Promised (Refused n)
+  pub search_refused : (r : Refusal) → number r ≡ number_of → Promised (Err r)
   unfolding frame_between
-  search_refused n e i = ((0, scan_refused capacity b (λ es. frame_chosen es page low high 0) h ps fs n e i), i)
+  search_refused r e = ((0, scan_refused capacity b (λ es. frame_chosen es page low high 0) h ps fs (number r) (sym e) (number_not_zero r)), number_not_zero r)
 
-  module _ (passed : number ≡ 0) (choice : ℕ) (r : Lookup) (found : r ≡ frame_chosen pairs page low high choice) where
-    made : Undecided (frame_between capacity b page low high) (λ call. EntriesCall call h ps fs (lookup_answer r))
-    unfolding frame_between
-    made = (choice, scan_answers capacity b (λ es. frame_chosen es page low high choice) h ps fs passed r found)
-
-    pub search_gives : (f : ℕ) → r ≡ Frame f → Promised (ScanFrame f)
-    search_gives f e = (rw e at made, (between_choices pairs page low high).any_choice choice f (sym found ∙ e))
-
-    pub search_gives_none : r ≡ NoFrame → Promised ScanNone
-    search_gives_none e = (rw e at made, (between_choices pairs page low high).none_only choice (sym found ∙ e))
+  pub search_gives : 0 ≡ number_of → (choice : ℕ) (r : Option ℕ) → r ≡ frame_chosen pairs page low high choice → Promised (Ok r)
+  unfolding frame_between
+  search_gives passed choice r found =
+      ((choice, scan_answers capacity b (λ es. frame_chosen es page low high choice) h ps fs (sym passed) r found), told r found)
+    where
+      told : (r : Option ℕ) → r ≡ frame_chosen pairs page low high choice → BetweenTold pairs page low high (Ok r)
+      told (Some f) e = (between_choices pairs page low high).any_choice choice f (sym e)
+      told None e = (between_choices pairs page low high).none_only choice (sym e)

@@ -4,17 +4,19 @@ use mathlib.Core.Bool.{Bool, true, false, ◌&&◌, ◌||◌, cond}
 use mathlib.Core.List.Memᴰ
 use mathlib.Core.List.{List, [], ◌∷◌, ◌++◌, Memᴰ}
 use mathlib.Core.Logic.{◌⊎◌, inl, inr}
-use Prim.Native.Nat.{ℕ, suc, ◌+◌, ◌-◌, ◌<◌, ◌≤◌}
+use Prim.Native.Nat.{ℕ, suc, ◌+◌, ◌<◌, ◌≤◌}
 use native.Mathlib.Numerals.{add-one}
 use native.Mathlib.Omega.{arith}
 use lib.Dec.{eqb, ltb}
 use lib.ListN.{length, get_or}
 use borrow.Author.Tests.{eq-eqb, ne_eqb, eqb-true, eqb-false, le-ltb, lt-ltb, ltb-true, ltb-false}
 use Rattle.wal_types.specs.declared.Header.{Header}
+use Rattle.wal_types.specs.declared.refusal.Refusal.{Refusal}
+use Rattle.wal_types.specs.Refusal.{number}
 use Rattle.wal_types.specs.Call.{Pair, pair, refused}
+use Rattle.wal_types.proofs.Refusals.{number_not_zero}
 use Rattle.index_search.specs.InnerRun.{All}
-use Rattle.index_find.specs.declared.find.Lookup.{Lookup}
-use Rattle.index_find.specs.declared.find.Lookup.TheVariants.{Frame, NoFrame}
+use Rattle.std.specs.Prelude.{Option, Some, None}
 use Rattle.index_find.specs.Index.{entries_refusal, EntriesCall}
 use Rattle.index_find.specs.Find.{lookup_answer}
 use Rattle.index_grown.specs.Entries.{entries_of}
@@ -71,15 +73,15 @@ module _ (to f g : ℕ) where
   tie_test l u = rw (le-ltb _ _ l, eq-eqb (distance to f) (distance to g) (omega arith))
 
 -- a list's pairs are one more than another's: what that one gives, and the others'
-pub record Joins (page : ℕ) (x : Lookup) (l k : List Pair) : Type 0 where
-  pub from_one : (g : ℕ) → x ≡ Frame g → Memᴰ (pair page g) k
+pub record Joins (page : ℕ) (x : Option ℕ) (l k : List Pair) : Type 0 where
+  pub from_one : (g : ℕ) → x ≡ Some g → Memᴰ (pair page g) k
   pub from_rest : (g : ℕ) → Memᴰ (pair page g) l → Memᴰ (pair page g) k
-  pub either : (g : ℕ) → Memᴰ (pair page g) k → (x ≡ Frame g) ⊎ Memᴰ (pair page g) l
+  pub either : (g : ℕ) → Memᴰ (pair page g) k → (x ≡ Some g) ⊎ Memᴰ (pair page g) l
 
 module _ (page to : ℕ) (l k : List Pair) where
   -- the nearer of the one and the nearest of the others is the nearest of all
-  joined : (x r : Lookup) → Joins page x l k → IsNearest l page to r → IsNearest k page to (nearer to x r)
-  joined (Frame f) (Frame g) joins is = go (is_nearer to f g) refl
+  joined : (x r : Option ℕ) → Joins page x l k → IsNearest l page to r → IsNearest k page to (nearer to x r)
+  joined (Some f) (Some g) joins is = go (is_nearer to f g) refl
     where
       of_both : (v : ℕ) → Memᴰ (pair page v) k → NotAfter to v f → NotAfter to v g → IsNearestFrame k page to v
       of_both v m first second =
@@ -101,33 +103,33 @@ module _ (page to : ℕ) (l k : List Pair) where
                 ];
           }
 
-      go : (t : Bool) → is_nearer to f g ≡ t → IsNearest k page to (cond t (Frame f) (Frame g))
+      go : (t : Bool) → is_nearer to f g ≡ t → IsNearest k page to (cond t (Some f) (Some g))
       go true e = of_both f (joins.from_one f refl) (not_after_itself to f) (nearer_first to f g e)
       go false e = of_both g (joins.from_rest g is.of_page) (nearer_second to f g e) (not_after_itself to g)
-  joined (Frame f) NoFrame joins none =
+  joined (Some f) None joins none =
       record {
         of_page = joins.from_one f refl;
         none_nearer = λ h i. elim (joins.either h i) [ inl e ↦ let s : f ≡ h = cc in omega arith | inr j ↦ absurd (none h j) ];
         lower_on_tie = λ h i t. elim (joins.either h i) [ inl e ↦ let s : f ≡ h = cc in omega arith | inr j ↦ absurd (none h j) ];
       }
-  joined NoFrame (Frame g) joins is =
+  joined None (Some g) joins is =
       record {
         of_page = joins.from_rest g is.of_page;
         none_nearer = λ h i. elim (joins.either h i) [ inl e ↦ let z : ◌≡◌ {A = ℕ} 0 1 = cc in absurd (omega arith) | inr j ↦ is.none_nearer h j ];
         lower_on_tie = λ h i t. elim (joins.either h i) [ inl e ↦ let z : ◌≡◌ {A = ℕ} 0 1 = cc in absurd (omega arith) | inr j ↦ is.lower_on_tie h j t ];
       }
-  joined NoFrame NoFrame joins none = λ h i. elim (joins.either h i) [ inl e ↦ let z : ◌≡◌ {A = ℕ} 0 1 = cc in absurd (omega arith) | inr j ↦ none h j ]
+  joined None None joins none = λ h i. elim (joins.either h i) [ inl e ↦ let z : ◌≡◌ {A = ℕ} 0 1 = cc in absurd (omega arith) | inr j ↦ none h j ]
 
 -- what a pair gives
 module _ (page : ℕ) (q : Pair) where
-  gives_own : (g : ℕ) → frame_of page q ≡ Frame g → pair page g ≡ q
+  gives_own : (g : ℕ) → frame_of page q ≡ Some g → pair page g ≡ q
   gives_own g e = go (eqb q.page page) refl e
     where
-      go : (t : Bool) → eqb q.page page ≡ t → cond t (Frame q.frame) NoFrame ≡ Frame g → pair page g ≡ q
+      go : (t : Bool) → eqb q.page page ≡ t → cond t (Some q.frame) None ≡ Some g → pair page g ≡ q
       go true s e = let f : q.frame ≡ g = cc in sym (ap₂ pair (eqb-true _ _ s) f)
       go false s e = let z : ◌≡◌ {A = ℕ} 0 1 = cc in absurd (omega arith)
 
-  own_given : (g : ℕ) → pair page g ≡ q → frame_of page q ≡ Frame g
+  own_given : (g : ℕ) → pair page g ≡ q → frame_of page q ≡ Some g
   own_given g e =
       let a : q.page ≡ page = sym (ap (λ (x : Pair). x.page) e) in
       let b : q.frame ≡ g = sym (ap (λ (x : Pair). x.frame) e) in
@@ -156,16 +158,16 @@ module _ (page to : ℕ) where
   nearest_is [] = λ g m. Memᴰ.not-nil m
   nearest_is (q ∷ l) = joined page to l (q ∷ l) (frame_of page q) (nearest l page to) (joins_front page q l) (nearest_is l)
 
-  nearest_only : (l : List Pair) (r s : Lookup) → IsNearest l page to r → IsNearest l page to s → r ≡ s
-  nearest_only l (Frame f) (Frame g) a b =
+  nearest_only : (l : List Pair) (r s : Option ℕ) → IsNearest l page to r → IsNearest l page to s → r ≡ s
+  nearest_only l (Some f) (Some g) a b =
       let p = a.none_nearer g b.of_page in
       let q = b.none_nearer f a.of_page in
       let t : distance to f ≡ distance to g = omega arith in
       let e : f ≡ g = omega (arith, a.lower_on_tie g b.of_page (sym t), b.lower_on_tie f a.of_page t) in
-      ap Frame e
-  nearest_only l (Frame f) NoFrame a b = absurd (b f a.of_page)
-  nearest_only l NoFrame (Frame g) a b = absurd (a g b.of_page)
-  nearest_only l NoFrame NoFrame a b = refl
+      ap Some e
+  nearest_only l (Some f) None a b = absurd (b f a.of_page)
+  nearest_only l None (Some g) a b = absurd (a g b.of_page)
+  nearest_only l None None a b = refl
 
 -- THE THEOREM: the call's frame is the nearest, and nothing else is
 pub nearest_decided : NearestDecided
@@ -173,7 +175,7 @@ nearest_decided es page to = record { is_nearest = nearest_is page to es; nothin
 
 -- THE SEARCH, entry by entry
 module _ (ps fs : List ℕ) (page to : ℕ) where
-  abbrev nearest_of : ℕ → Lookup
+  abbrev nearest_of : ℕ → Option ℕ
   nearest_of n = nearest_among ps fs page to n
 
   nearest_next : (n : ℕ) → nearer to (frame_of page (entry ps fs n)) (nearest_of n) ≡ nearest_of (n + 1)
@@ -187,36 +189,26 @@ module _ (ps fs : List ℕ) (page to : ℕ) where
       one_more = rw add-one (ap (λ (x : List Pair). nearest x page to) (sym (entries_next ps fs n)))
 
   -- the turns: n entries are looked at, and r is the nearest of them
-  module _ (n : ℕ) (r : Lookup) (so_far : r ≡ nearest_of n) where
-    pub turn_of_page : (s : Lookup) → get_or ps (n + 1 - 1) 0 ≡ page → s ≡ nearer to (Frame (get_or fs (n + 1 - 1) 0)) r → s ≡ nearest_of (n + 1)
+  module _ (n : ℕ) (r : Option ℕ) (so_far : r ≡ nearest_of n) where
+    pub turn_of_page : (s : Option ℕ) → get_or ps n 0 ≡ page → s ≡ nearer to (Some (get_or fs n 0)) r → s ≡ nearest_of (n + 1)
     turn_of_page s e t =
-        let i : n + 1 - 1 ≡ n = omega arith in
-        let t' : s ≡ nearer to (Frame (get_or fs n 0)) r = rw i at t in
-        let here : frame_of page (entry ps fs n) ≡ Frame (get_or fs n 0) = rw (eq-eqb _ _ (rw i at e)) in
-        t' ∙ (ap₂ (nearer to) (sym here) so_far ∙ nearest_next n)
+        let here : frame_of page (entry ps fs n) ≡ Some (get_or fs n 0) = rw (eq-eqb _ _ e) in
+        t ∙ (ap₂ (nearer to) (sym here) so_far ∙ nearest_next n)
 
-    pub turn_of_other : (get_or ps (n + 1 - 1) 0 ≡ page → ⊥) → r ≡ nearest_of (n + 1)
+    pub turn_of_other : (get_or ps n 0 ≡ page → ⊥) → r ≡ nearest_of (n + 1)
     turn_of_other o =
-        let i : n + 1 - 1 ≡ n = omega arith in
-        let here : frame_of page (entry ps fs n) ≡ NoFrame = rw (ne_eqb _ _ (rw i at o)) in
-        so_far ∙ (ap (λ (x : Lookup). nearer to x (nearest_of n)) (sym here) ∙ nearest_next n)
+        let here : frame_of page (entry ps fs n) ≡ None = rw (ne_eqb _ _ o) in
+        so_far ∙ (ap (λ (x : Option ℕ). nearer to x (nearest_of n)) (sym here) ∙ nearest_next n)
 
   -- entries of other pages are passed over
   other_passed : (n : ℕ) → OtherPage ps page n → nearest_of n ≡ nearest_of (suc n)
-  other_passed n other =
-      let i : n + 1 - 1 ≡ n = omega arith in
-      let e : n + 1 ≡ suc n = omega arith in
-      turn_of_other n (nearest_of n) refl (rw i other) ∙ ap nearest_of e
+  other_passed n other = let e : n + 1 ≡ suc n = omega arith in turn_of_other n (nearest_of n) refl other ∙ ap nearest_of e
 
-  -- the looks: n entries are looked at, and r is the nearest of them
-  module _ (n : ℕ) (r : Lookup) (so_far : r ≡ nearest_of n) where
-    pub look_passed : All (OtherPage ps page) (n + 8 - 8) (n + 8 - 8 + 8) → r ≡ nearest_of (n + 8)
-    look_passed others = let e : n + 8 - 8 ≡ n = omega arith in so_far ∙ along nearest_of (OtherPage ps page) other_passed n 8 (rw e at others)
+  -- a look at eight entries of other pages, n entries being looked at before
+  pub look_passed : (n : ℕ) (r : Option ℕ) → r ≡ nearest_of n → All (OtherPage ps page) n (n + 8) → r ≡ nearest_of (n + 8)
+  look_passed n r so_far others = so_far ∙ along nearest_of (OtherPage ps page) other_passed n 8 others
 
-    pub look_further : (s : Lookup) → (r ≡ nearest_of (n + 8 - 8) → s ≡ nearest_of (n + 8)) → s ≡ nearest_of (n + 8)
-    look_further s told = let e : n + 8 - 8 ≡ n = omega arith in told (so_far ∙ ap nearest_of (sym e))
-
-  pub none_yet : NoFrame ≡ nearest_of 0
+  pub none_yet : None ≡ nearest_of 0
   unfolding entries_of nearest
   none_yet = refl
 
@@ -225,13 +217,13 @@ module _ (ps fs : List ℕ) (page to : ℕ) where
 
 -- THE CALL, by the answer that the code makes of what is found
 module _ (capacity b page to : ℕ) (h : Header) (ps fs : List ℕ) where
-  abbrev number : ℕ
-  number = entries_refusal capacity b h (length ps) (length fs)
+  abbrev number_of : ℕ
+  number_of = entries_refusal capacity b h (length ps) (length fs)
 
-  pub nearest_refused : (n : ℕ) → number ≡ n → (n ≡ 0 → ⊥) → EntriesCall (nearest_frame capacity b page to) h ps fs (refused n)
+  pub nearest_refused : (r : Refusal) → number r ≡ number_of → EntriesCall (nearest_frame capacity b page to) h ps fs (refused (number r))
   unfolding nearest_frame
-  nearest_refused n e i = scan_refused capacity b (λ es. nearest es page to) h ps fs n e i
+  nearest_refused r e = scan_refused capacity b (λ es. nearest es page to) h ps fs (number r) (sym e) (number_not_zero r)
 
-  pub nearest_answers : number ≡ 0 → (r s : Lookup) → r ≡ nearest (entries_of h.frame_index_len ps fs) page to → r ≡ s → EntriesCall (nearest_frame capacity b page to) h ps fs (lookup_answer s)
+  pub nearest_answers : 0 ≡ number_of → (r : Option ℕ) → r ≡ nearest (entries_of h.frame_index_len ps fs) page to → EntriesCall (nearest_frame capacity b page to) h ps fs (lookup_answer r)
   unfolding nearest_frame
-  nearest_answers passed r s found e = scan_answers capacity b (λ es. nearest es page to) h ps fs passed s (sym e ∙ found)
+  nearest_answers passed r found = scan_answers capacity b (λ es. nearest es page to) h ps fs (sym passed) r found

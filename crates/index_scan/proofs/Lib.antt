@@ -1,4 +1,5 @@
 -- Laws of the searches over the entries.
 pub mod Scanned
+mod Looks
 pub mod Choices
 pub mod Distances

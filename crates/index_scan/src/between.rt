@@ -1,6 +1,5 @@
 // A frame of a page between two frames.
 ghost use Rattle.std.specs.Prelude.{◌≡◌, ◌≤◌, length};
-ghost use Rattle.wal_types.specs.Settings.{within};
 ghost use Rattle.index_find.specs.Index.{EntriesCall};
 ghost use Rattle.index_find.specs.Find.{else_look};
 ghost use Rattle.index_grown.specs.Entries.{entries_of};
@@ -8,22 +7,12 @@ ghost use Rattle.index_scan.specs.Scan.{scan_answer};
 ghost use Rattle.index_scan.specs.Between.{frame_between, Undecided, BetweenTold};
 ghost use Rattle.index_scan.specs.InnerScan.{last_among};
 
-use crate::{ScanAnswer, others};
-use index_find::find::Lookup;
+use crate::others;
 use index_find::index;
 use wal_types::Header;
+use wal_types::refusal::Refusal;
 
-// Whether a frame is between the bounds, both included.
-fn is_between(frame_id: u64, min_frame: u64, max_frame: u64) -> bool
-    ensures { result ≡ within min_frame max_frame frame_id }
-{
-    if frame_id < min_frame {
-        return false;
-    }
-    frame_id <= max_frame
-}
-
-// The last of the entries from the one at `from` up to `end` that is of the page and between the bounds.
+// The last of the entries from the one at `from` up to `end` that is of the page and between the bounds, both included.
 fn last_between_in(
     pages: &[u64],
     frames: &[u64],
@@ -32,21 +21,20 @@ fn last_between_in(
     page_id: u64,
     min_frame: u64,
     max_frame: u64,
-) -> Lookup
+) -> Option<u64>
     requires { (from ≤ end) × ((end ≤ length pages.now) × (end ≤ length frames.now)) }
     ensures { else_look result (last_among pages.now frames.now page_id min_frame max_frame from) ≡ last_among pages.now frames.now page_id min_frame max_frame end }
 {
-    let mut n = end;
-    while from < n {
-        n -= 1;
+    // By place: the page and the frame of an entry are read at the same one.
+    for n in (from..end).rev() {
         if pages[n] == page_id {
             let frame_id = frames[n];
-            if is_between(frame_id, min_frame, max_frame) {
-                return Lookup::Frame(frame_id);
+            if (min_frame..=max_frame).contains(&frame_id) {
+                return Some(frame_id);
             }
         }
     }
-    Lookup::NoFrame
+    None
 }
 
 // The last of the first len entries that is of the page and between the bounds. What is asked for was mostly written lately: the
@@ -58,18 +46,19 @@ fn last_between(
     page_id: u64,
     min_frame: u64,
     max_frame: u64,
-) -> Lookup
+) -> Option<u64>
     requires { (len ≤ length pages.now) × (len ≤ length frames.now) }
     ensures { result ≡ last_among pages.now frames.now page_id min_frame max_frame len }
 {
+    // A `for` over the looks takes a third longer for an entry, and `split_last_chunk` a fourth.
     let mut n = len;
     while others::LOOK <= n {
         n -= others::LOOK;
-        if !others::eight_of_others(pages, page_id, n) {
+        if !others::are_others(pages, page_id, n) {
             let end = n + others::LOOK;
             let found = last_between_in(pages, frames, n, end, page_id, min_frame, max_frame);
-            if let Lookup::Frame(frame_id) = found {
-                return Lookup::Frame(frame_id);
+            if found.is_some() {
+                return found;
             }
         }
     }
@@ -86,17 +75,10 @@ pub fn frame_between(
     page_id: u64,
     min_frame: u64,
     max_frame: u64,
-) -> ScanAnswer
+) -> Result<Option<u64>, Refusal>
     ensures { Undecided (frame_between capacity max_blocks page_id min_frame max_frame) (λ call. EntriesCall call header pages.now frames.now (scan_answer result)) × BetweenTold (entries_of header.frame_index_len pages.now frames.now) page_id min_frame max_frame result }
 {
-    let refusal = index::entries_refusal(capacity, max_blocks, header, pages.len(), frames.len());
-    if refusal != 0 {
-        return ScanAnswer::Refused(refusal);
-    }
+    index::check_entries(capacity, max_blocks, header, pages.len(), frames.len())?;
     let len = header.frame_index_len as usize;
-    let found = last_between(pages, frames, len, page_id, min_frame, max_frame);
-    let Lookup::Frame(frame_id) = found else {
-        return ScanAnswer::NoFrame;
-    };
-    ScanAnswer::Frame(frame_id)
+    Ok(last_between(pages, frames, len, page_id, min_frame, max_frame))
 }

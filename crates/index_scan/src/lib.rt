@@ -6,11 +6,3 @@
 pub mod between;
 pub mod nearest;
 mod others;
-
-// Nothing changes: the answer alone.
-#[derive(Clone, Copy)]
-pub enum ScanAnswer {
-    Frame(u64),
-    NoFrame,
-    Refused(u32),
-}

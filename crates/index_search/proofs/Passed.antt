@@ -6,20 +6,18 @@ use Prim.Native.Nat.{ℕ, zero, suc, ◌+◌, ◌-◌, ◌%◌, ◌<◌, ◌≤�
 use native.Mathlib.Decide.{dec_lt, ℕ_discrete}
 use native.Mathlib.Omega.{arith}
 use lib.Dec.{eqb, ltb}
-use lib.ListN.{get_or}
+use lib.ListN.{length, get_or, take, drop, length-take, length-drop}
+use lib.Seq.{get_or-take}
 use borrow.Author.Tests.{eqb-false, ltb-true, eq-eqb, ne_eqb}
-use Rattle.index_hash.specs.declared.Cell.{Cell}
-use Rattle.index_hash.specs.declared.Cell.TheVariants.{Empty, Full}
-use Rattle.index_hash.specs.declared.Probe.{Probe}
-use Rattle.index_hash.specs.declared.Probe.TheVariants.{At, Nothing}
+use Rattle.std.specs.Prelude.{Option, Some, None}
 use Rattle.index_hash.specs.Home.{home, next_cell}
 use Rattle.index_hash.specs.Block.{empty_from, empty_cell, probe_from, probe, looked_from, looked}
 use Rattle.index_hash.proofs.Empty.{by_test}
 use Rattle.index_hash.proofs.Turns.{none_left, at_used, at_empty, probe_at_live, looked_none_left, looked_at_empty, looked_at_hidden, looked_at_live}
-use Rattle.index_search.proofs.Runs.{one_at_least}
+use Rattle.index_search.proofs.Runs.{one_at_least, cell_of_part}
 use Rattle.index_search.specs.InnerRun.{All, Live, Used, page_named, Other, met_in, entry_named}
 
-same_test : (t : Bool) (a x y : Cell) (c : ℕ) → (x ≡ Empty c → y ≡ Empty c) → cond t a x ≡ Empty c → cond t a y ≡ Empty c
+same_test : (t : Bool) (a x y : Option ℕ) (c : ℕ) → (x ≡ Some c → y ≡ Some c) → cond t a x ≡ Some c → cond t a y ≡ Some c
 same_test true a x y c f e = e
 same_test false a x y c f e = f e
 
@@ -36,7 +34,7 @@ module _ (h : List ℕ) where
 
   module _ (home : ℕ) (b : home < 8192) where
     -- the first empty cell, the used ones before it straight from the home on
-    pub found_on : (cell : ℕ) → home ≤ cell → cell < 8192 → All (Used h) home cell → get_or h cell 0 ≡ 0 → Empty cell ≡ empty_from 8192 h home
+    pub found_on : (cell : ℕ) → home ≤ cell → cell < 8192 → All (Used h) home cell → get_or h cell 0 ≡ 0 → Some cell ≡ empty_from 8192 h home
     found_on cell l u used z =
         let e : home + (cell - home) ≡ cell = omega arith in
         let at : (home + (cell - home)) % 8192 ≡ cell = omega arith in
@@ -55,7 +53,7 @@ module _ (h : List ℕ) where
         rw (n, at, start) at s
 
     -- the first empty cell, the used ones before it up to the block's end and from its first cell on
-    pub found_round : (cell : ℕ) → cell < home → All (Used h) home 8192 → All (Used h) 0 cell → get_or h cell 0 ≡ 0 → Empty cell ≡ empty_from 8192 h home
+    pub found_round : (cell : ℕ) → cell < home → All (Used h) home 8192 → All (Used h) 0 cell → get_or h cell 0 ≡ 0 → Some cell ≡ empty_from 8192 h home
     found_round cell u used before z =
         let e : 0 + cell ≡ cell = omega arith in
         let at : (0 + cell) % 8192 ≡ cell = omega arith in
@@ -63,7 +61,7 @@ module _ (h : List ℕ) where
         at_empty (home - cell) h cell (empty_from 8192 h home) (rw at at s ∙ past_end used) (omega arith) z
 
     -- every cell is used
-    pub found_none : All (Used h) home 8192 → All (Used h) 0 home → Full ≡ empty_from 8192 h home
+    pub found_none : All (Used h) home 8192 → All (Used h) 0 home → None ≡ empty_from 8192 h home
     found_none used before =
         let e : 0 + home ≡ home = omega arith in
         let n : home - home ≡ 0 = omega arith in
@@ -71,19 +69,19 @@ module _ (h : List ℕ) where
         none_left (home - home) h ((0 + home) % 8192) (empty_from 8192 h home) (s ∙ past_end used) n
 
   -- from a page's home on
-  pub of_page : (from page : ℕ) (x : Cell) → from ≡ home page → x ≡ empty_from 8192 h from → x ≡ empty_cell h page
+  pub of_page : (from page : ℕ) (x : Option ℕ) → from ≡ home page → x ≡ empty_from 8192 h from → x ≡ empty_cell h page
   unfolding empty_cell
   of_page from page x e f = rw e at f
 
   -- a cell found within fewer cells is the one found within more
-  pub found_sooner : (m n : ℕ) (cell c : ℕ) → m ≤ n → empty_from m h cell ≡ Empty c → empty_from n h cell ≡ Empty c
+  pub found_sooner : (m n : ℕ) (cell c : ℕ) → m ≤ n → empty_from m h cell ≡ Some c → empty_from n h cell ≡ Some c
   unfolding empty_from
   found_sooner zero n cell c l e = let z : ◌≡◌ {A = ℕ} 0 1 = cc in absurd (omega arith)
   found_sooner (suc m) zero cell c l e = absurd (omega arith)
-  found_sooner (suc m) (suc n) cell c l e = same_test (eqb (get_or h cell 0) 0) (Empty cell) _ _ c (found_sooner m n (next_cell cell) c (omega arith)) e
+  found_sooner (suc m) (suc n) cell c l e = same_test (eqb (get_or h cell 0) 0) (Some cell) _ _ c (found_sooner m n (next_cell cell) c (omega arith)) e
 
   -- so it is the page's cell
-  pub found_near : (m : ℕ) (from page c : ℕ) → m ≤ 8192 → from ≡ home page → empty_from m h from ≡ Empty c → empty_cell h page ≡ Empty c
+  pub found_near : (m : ℕ) (from page c : ℕ) → m ≤ 8192 → from ≡ home page → empty_from m h from ≡ Some c → empty_cell h page ≡ Some c
   unfolding empty_cell
   found_near m from page c l e f = found_sooner m 8192 (home page) c l (rw e at f)
 
@@ -94,16 +92,16 @@ next_turn from turn = omega arith
 
 module _ (h pages : List ℕ) (page visible : ℕ) where
   -- the probe starts at the page's home, with nothing met
-  pub probe_start : (from : ℕ) → from < 8192 → from ≡ home page → probe_from (8192 - 0) h pages page visible ((from + 0) % 8192) Nothing ≡ probe h pages page visible
+  pub probe_start : (from : ℕ) → from < 8192 → from ≡ home page → probe_from (8192 - 0) h pages page visible ((from + 0) % 8192) None ≡ probe h pages page visible
   unfolding probe
-  probe_start from b e = ap₂ (λ (n c : ℕ). probe_from n h pages page visible c Nothing) (omega arith) (omega arith)
+  probe_start from b e = ap₂ (λ (n c : ℕ). probe_from n h pages page visible c None) (omega arith) (omega arith)
 
   -- a cell of the block is its own remainder
-  pub probe_here : (n cell : ℕ) (latest whole : Probe) → cell < 8192 → probe_from n h pages page visible (cell % 8192) latest ≡ whole → probe_from n h pages page visible cell latest ≡ whole
+  pub probe_here : (n cell : ℕ) (latest whole : Option ℕ) → cell < 8192 → probe_from n h pages page visible (cell % 8192) latest ≡ whole → probe_from n h pages page visible cell latest ≡ whole
   probe_here n cell latest whole b e = let here : cell % 8192 ≡ cell = omega arith in rw here at e
 
   -- behind live cells the probe goes on, with the last entry of the page that they name
-  pub pass_live : (from n m : ℕ) (latest : Probe) → from + n ≤ 8192 → n ≤ m → All (Live h visible) from (from + n) → probe_from (m - n) h pages page visible ((from + n) % 8192) (met_in h pages page from n latest) ≡ probe_from m h pages page visible (from % 8192) latest
+  pub pass_live : (from n m : ℕ) (latest : Option ℕ) → from + n ≤ 8192 → n ≤ m → All (Live h visible) from (from + n) → probe_from (m - n) h pages page visible ((from + n) % 8192) (met_in h pages page from n latest) ≡ probe_from m h pages page visible (from % 8192) latest
   unfolding next_cell met_in
   pass_live from zero m latest b l live = ap₂ (λ (k c : ℕ). probe_from k h pages page visible c latest) (omega arith) (omega arith)
   pass_live from (suc n) m latest b l live =
@@ -115,48 +113,45 @@ module _ (h pages : List ℕ) (page visible : ℕ) where
       ap (λ (c : ℕ). probe_from (m - suc n) h pages page visible c (met_in h pages page from (suc n) latest)) (omega arith) ∙ on
 
   -- with no cell left it is over
-  probe_over : (m cell : ℕ) (latest : Probe) → m ≡ 0 → probe_from m h pages page visible cell latest ≡ latest
+  probe_over : (m cell : ℕ) (latest : Option ℕ) → m ≡ 0 → probe_from m h pages page visible cell latest ≡ latest
   unfolding probe_from
   probe_over m cell latest e = rw e
 
   -- a cell that is not live ends it
-  pub probe_stops : (m cell : ℕ) (latest : Probe) → (Live h visible cell → ⊥) → probe_from m h pages page visible cell latest ≡ latest
+  pub probe_stops : (m cell : ℕ) (latest : Option ℕ) → (Live h visible cell → ⊥) → probe_from m h pages page visible cell latest ≡ latest
   unfolding probe_from
   probe_stops zero cell latest dead = refl
   probe_stops (suc m) cell latest dead =
-      by_test (λ (x : Probe). x ≡ latest) (eqb (get_or h cell 0) 0) (λ t. refl)
-      (λ t. by_test (λ (x : Probe). x ≡ latest) (ltb (get_or h cell 0 - 1) visible)
+      by_test (λ (x : Option ℕ). x ≡ latest) (eqb (get_or h cell 0) 0) (λ t. refl)
+      (λ t. by_test (λ (x : Option ℕ). x ≡ latest) (ltb (get_or h cell 0 - 1) visible)
       (λ s. let z = one_at_least (get_or h cell 0) (eqb-false _ _ t) in let q : get_or h cell 0 - 1 < visible = ltb-true _ _ s in absurd (dead (z, omega arith)))
       (λ s. refl))
 
   -- the whole probe, by a run that ends before the block does
-  pub probe_straight : (from end : ℕ) → from ≡ home page → from ≤ end → end < 8192 → All (Live h visible) from end → (Live h visible end → ⊥) → met_in h pages page from (end - from) Nothing ≡ probe h pages page visible
+  pub probe_straight : (from end : ℕ) → from ≡ home page → from ≤ end → end < 8192 → All (Live h visible) from end → (Live h visible end → ⊥) → met_in h pages page from (end - from) None ≡ probe h pages page visible
   unfolding probe
   probe_straight from end e l b live dead =
       let to : from + (end - from) ≡ end = omega arith in
       let at : (from + (end - from)) % 8192 ≡ end = omega arith in
       let start : from % 8192 ≡ home page = omega arith in
-      let s = pass_live from (end - from) 8192 Nothing (omega arith) (omega arith) (rw to live) in
-      sym (probe_stops (8192 - (end - from)) end (met_in h pages page from (end - from) Nothing) dead) ∙ rw (at, start) at s
+      let s = pass_live from (end - from) 8192 None (omega arith) (omega arith) (rw to live) in
+      sym (probe_stops (8192 - (end - from)) end (met_in h pages page from (end - from) None) dead) ∙ rw (at, start) at s
 
   -- and by one that goes on at the block's first cell
-  pub probe_round : (from end : ℕ) → from ≡ home page → from < 8192 → All (Live h visible) from 8192 → end ≤ from → All (Live h visible) 0 end → (end < from → Live h visible end → ⊥) → met_in h pages page 0 (end - 0) (met_in h pages page from (8192 - from) Nothing) ≡ probe h pages page visible
+  pub probe_round : (from end : ℕ) → from ≡ home page → from < 8192 → All (Live h visible) from 8192 → end ≤ from → All (Live h visible) 0 end → (end < from → Live h visible end → ⊥) → met_in h pages page 0 end (met_in h pages page from (8192 - from) None) ≡ probe h pages page visible
   unfolding probe
-  probe_round from end e b live l more dead = rw none (go (dec_lt end from) ∙ second ∙ first)
+  probe_round from end e b live l more dead = go (dec_lt end from) ∙ second ∙ first
     where
-      none : end - 0 ≡ end
-      none = omega arith
+      met : Option ℕ
+      met = met_in h pages page from (8192 - from) None
 
-      met : Probe
-      met = met_in h pages page from (8192 - from) Nothing
-
-      first : probe_from from h pages page visible 0 met ≡ probe_from 8192 h pages page visible (home page) Nothing
+      first : probe_from from h pages page visible 0 met ≡ probe_from 8192 h pages page visible (home page) None
       first =
           let to : from + (8192 - from) ≡ 8192 = omega arith in
           let at : (from + (8192 - from)) % 8192 ≡ 0 = omega arith in
           let left : 8192 - (8192 - from) ≡ from = omega arith in
           let start : from % 8192 ≡ home page = omega arith in
-          rw (left, at, start) at (pass_live from (8192 - from) 8192 Nothing (omega arith) (omega arith) (rw to live))
+          rw (left, at, start) at (pass_live from (8192 - from) 8192 None (omega arith) (omega arith) (rw to live))
 
       second : probe_from (from - end) h pages page visible end (met_in h pages page 0 end met) ≡ probe_from from h pages page visible 0 met
       second =
@@ -259,7 +254,7 @@ module _ (h : List ℕ) (page visible : ℕ) where
 
 module _ (h pages : List ℕ) (page : ℕ) where
   -- cells that name other pages' entries tell nothing
-  pub met_skip : (from n k : ℕ) (before : Probe) → All (Other h pages page) (from + n) (from + n + k) → met_in h pages page from (n + k) before ≡ met_in h pages page from n before
+  pub met_skip : (from n k : ℕ) (before : Option ℕ) → All (Other h pages page) (from + n) (from + n + k) → met_in h pages page from (n + k) before ≡ met_in h pages page from n before
   unfolding met_in
   met_skip from n zero before others = let e : n + zero ≡ n = omega arith in ap (λ (x : ℕ). met_in h pages page from x before) e
   met_skip from n (suc k) before others =
@@ -268,25 +263,43 @@ module _ (h pages : List ℕ) (page : ℕ) where
       let no = others (from + n + k) (omega arith) (omega arith) in
       rw e (rw (ne_eqb _ _ (rw at at no)) (met_skip from n k before (λ c x y. others c x (omega arith))))
 
-  module _ (from : ℕ) (before : Probe) where
-    -- so a run that ends before them tells the same
-    pub met_passed : (rest end : ℕ) → from ≤ rest → rest ≤ end → All (Other h pages page) rest end → met_in h pages page from (rest - from) before ≡ met_in h pages page from (end - from) before
-    met_passed rest end l u others =
-        let at : from + (rest - from) ≡ rest = omega arith in
+  -- of a part of the hash
+  met_same : (part : List ℕ) (from n : ℕ) (before : Option ℕ) → ((c : ℕ) → c < n → get_or part c 0 ≡ get_or h (from + c) 0) → met_in part pages page 0 n before ≡ met_in h pages page from n before
+  unfolding met_in
+  met_same part from zero before same = refl
+  met_same part from (suc n) before same =
+      let at : 0 + n ≡ n = omega arith in
+      rw (at, same n (omega arith), met_same part from n before (λ c l. same c (omega arith)))
+
+  pub met_part : (from n : ℕ) (before : Option ℕ) → from + n ≤ length h → met_in (take n (drop from h)) pages page 0 (length (take n (drop from h))) before ≡ met_in h pages page from n before
+  met_part from n before l =
+      let k : length (take n (drop from h)) ≡ n = simp (length-take, length-drop) (omega arith) in
+      rw k (met_same (take n (drop from h)) from n before (cell_of_part h from n))
+
+  pub met_front : (n : ℕ) (before : Option ℕ) → n ≤ length h → met_in (take n h) pages page 0 (length (take n h)) before ≡ met_in h pages page 0 n before
+  met_front n before l =
+      let k : length (take n h) ≡ n = simp length-take (omega arith) in
+      rw k (met_same (take n h) 0 n before (λ c b. let e : 0 + c ≡ c = omega arith in rw e (get_or-take {A = ℕ} n h c 0 b)))
+
+  module _ (before : Option ℕ) where
+    -- a run that ends before cells that tell nothing tells the same
+    pub met_passed : (rest end : ℕ) → rest ≤ end → All (Other h pages page) rest end → met_in h pages page 0 rest before ≡ met_in h pages page 0 end before
+    met_passed rest end u others =
+        let at : 0 + rest ≡ rest = omega arith in
         let to : rest + (end - rest) ≡ end = omega arith in
-        let n : rest - from + (end - rest) ≡ end - from = omega arith in
-        sym (rw n at (met_skip from (rest - from) (end - rest) before (rw (at, to) others)))
+        sym (rw to at (met_skip 0 rest (end - rest) before (rw (at, to) others)))
 
     -- the page's entry that the last cell of a run names
-    pub met_last : (rest : ℕ) → from < rest → page_named h pages (rest - 1) ≡ page → At (get_or h (rest - 1) 0 - 1) ≡ met_in h pages page from (rest - from) before
+    pub met_last : (n : ℕ) → 0 < n → page_named h pages (n - 1) ≡ page → Some (get_or h (n - 1) 0 - 1) ≡ met_in h pages page 0 n before
     unfolding met_in
-    met_last rest l e =
-        let n : rest - from ≡ suc (rest - 1 - from) = omega arith in
-        let at : from + (rest - 1 - from) ≡ rest - 1 = omega arith in
-        rw n (rw (at, eq-eqb _ _ e))
+    met_last zero l e = absurd (omega arith)
+    met_last (suc n) l e =
+        let last : suc n - 1 ≡ n = omega arith in
+        let at : 0 + n ≡ n = omega arith in
+        rw (last, at, eq-eqb _ _ (rw last at e))
 
     -- no cells tell what was met before
-    pub met_nothing : (n : ℕ) → n ≡ 0 → before ≡ met_in h pages page from n before
+    pub met_nothing : (n : ℕ) → n ≡ 0 → before ≡ met_in h pages page 0 n before
     unfolding met_in
     met_nothing n e = rw e
 
@@ -303,6 +316,6 @@ dead_empty h c b dead = go (get_or h c 0) b dead
     go (suc x) b dead = absurd (dead (omega arith, b))
 
 -- a used cell's number names an entry
-pub named_used : (x : ℕ) → (x ≡ 0 → ⊥) → entry_named x ≡ At (x - 1)
+pub named_used : (x : ℕ) → (x ≡ 0 → ⊥) → entry_named x ≡ Some (x - 1)
 named_used zero used = absurd (used refl)
 named_used (suc i) used = let e : suc i - 1 ≡ i = omega arith in rw e

@@ -1,18 +1,13 @@
 -- Runs joined from parts, each seen by a test. Assumes nothing.
-use mathlib.Core.Path.{◌≡◌, refl}
-use mathlib.Core.Bool.{Bool, true, false, ◌&&◌, not}
-use mathlib.Core.List.{List}
-use Prim.Native.Nat.{ℕ, zero, suc, ◌+◌, ◌<◌, ◌≤◌}
+use mathlib.Core.Path.{◌≡◌, refl, ap, ◌∙◌}
+use mathlib.Core.List.{List, []}
+use Prim.Native.Nat.{ℕ, zero, suc, ◌+◌, ◌-◌, ◌*◌, ◌<◌, ◌≤◌}
 use native.Mathlib.Decide.{dec_lt}
 use native.Mathlib.Omega.{arith}
-use lib.Dec.{eqb, leb}
-use lib.ListN.{get_or}
-use borrow.Author.Tests.{eqb-true, eqb-false, leb-true, leb-false, not-true}
-use Rattle.index_search.specs.InnerRun.{All, Live, page_named, Other}
-
-pub both : (a b : Bool) → a && b ≡ true → (a ≡ true) × (b ≡ true)
-both true b e = (refl, e)
-both false b e = let z : ◌≡◌ {A = ℕ} 0 1 = cc in absurd (omega arith)
+use lib.ListN.{length, get_or, take, drop}
+use lib.Seq.{get_or-take, get_or-drop, take-take}
+use Rattle.std.specs.Simd.{first_chunks}
+use Rattle.index_search.specs.InnerRun.{All, Live, Other}
 
 pub one_at_least : (x : ℕ) → (x ≡ 0 → ⊥) → 1 ≤ x
 one_at_least zero f = absurd (f refl)
@@ -26,50 +21,64 @@ all_join P from mid to a b c l u = go (dec_lt c mid)
     go (yes e) = a c l e
     go (no e) = b c (omega arith) u
 
--- one number
-pub all_one : (P : ℕ → Type 0) (c : ℕ) → P c → All P c (c + 1)
-all_one P c p k l u = let e : k ≡ c = omega arith in rw e p
-
--- none
-pub all_none : (P : ℕ → Type 0) (c : ℕ) → All P c c
-all_none P c k l u = absurd (omega arith)
-
 -- a part of it
 pub all_within : (P : ℕ → Type 0) (from to from' to' : ℕ) → from ≤ from' → to' ≤ to → All P from to → All P from' to'
 all_within P from to from' to' l u a c x y = a c (omega arith) (omega arith)
 
-module _ (P : ℕ → Type 0) (from : ℕ) where
-  -- two parts of n numbers, each seen by a test
-  pub two_parts : (n : ℕ) (a b : Bool) → (a ≡ true → All P from (from + n)) → (b ≡ true → All P (from + n) (from + n + n)) → a && b ≡ true → All P from (from + (n + n))
-  two_parts n a b f g e =
-      let x = both a b e in
-      all_within P from (from + n + n) from (from + (n + n)) (omega arith) (omega arith) (all_join P from (from + n) (from + n + n) (f x.0) (g x.1))
+-- cell j of look n
+look_cell : (size m n j : ℕ) (xs : List ℕ) → n < m → j < size → get_or (get_or (first_chunks size m xs) n []) j 0 ≡ get_or xs (size * n + j) 0
+look_cell size zero n j xs l b = absurd (omega arith)
+look_cell size (suc m) zero j xs l b = get_or-take {A = ℕ} size xs j 0 b ∙ ap (λ (k : ℕ). get_or xs k 0) (omega arith)
+look_cell size (suc m) (suc n) j xs l b =
+    look_cell size m n j (drop size xs) (omega arith) b
+    ∙ get_or-drop {A = ℕ} size xs (size * n + j) 0
+    ∙ ap (λ (k : ℕ). get_or xs k 0) (omega arith)
 
-  -- four parts
-  pub four_parts : (n : ℕ) (a b c d : Bool) → (a ≡ true → All P from (from + n)) → (b ≡ true → All P (from + n) (from + n + n)) → (c ≡ true → All P (from + (n + n)) (from + (n + n) + n)) → (d ≡ true → All P (from + (n + n + n)) (from + (n + n + n) + n)) → ((a && b) && c) && d ≡ true → All P from (from + (n + n + n + n))
-  four_parts n a b c d f g i j e =
-      let x = both ((a && b) && c) d e in
-      let y = both (a && b) c x.0 in
-      let z = two_parts n a b f g y.0 in
-      let three = all_join P from (from + (n + n)) (from + (n + n) + n) z (i y.1) in
-      let joined = all_join P from (from + (n + n + n)) (from + (n + n + n) + n) (all_within P from (from + (n + n) + n) from (from + (n + n + n)) (omega arith) (omega arith) three) (j x.1) in
-      all_within P from (from + (n + n + n) + n) from (from + (n + n + n + n)) (omega arith) (omega arith) joined
-
--- a cell seen to be live
-pub live_seen : (h : List ℕ) (visible c : ℕ) → not (eqb (get_or h c 0) 0) && leb (get_or h c 0) visible ≡ true → Live h visible c
-live_seen h visible c e =
-    let x = both (not (eqb (get_or h c 0) 0)) (leb (get_or h c 0) visible) e in
-    (one_at_least _ (eqb-false _ _ (not-true _ x.0)), leb-true _ _ x.1)
-
--- and one seen not to be
-pub live_unseen : (h : List ℕ) (visible c : ℕ) → not (eqb (get_or h c 0) 0) && leb (get_or h c 0) visible ≡ false → Live h visible c → ⊥
-live_unseen h visible c e l = go (eqb (get_or h c 0) 0) (leb (get_or h c 0) visible) refl refl e
+-- one look more is live
+pub look_live : (h : List ℕ) (looks : List (List ℕ)) (visible n m : ℕ) → looks ≡ first_chunks 16 m h → n < m → All (Live h visible) 0 (16 * n) → All (Live (get_or looks n []) visible) 0 16
+    → All (Live h visible) 0 (16 * (n + 1))
+look_live h looks visible n m e l before look = all_join (Live h visible) 0 (16 * n) (16 * (n + 1)) before here
   where
-    go : (a b : Bool) → eqb (get_or h c 0) 0 ≡ a → leb (get_or h c 0) visible ≡ b → not a && b ≡ false → ⊥
-    go true b p q f = let z = eqb-true (get_or h c 0) 0 p in absurd (omega (arith, l.0))
-    go false true p q f = let z : ◌≡◌ {A = ℕ} 0 1 = cc in absurd (omega arith)
-    go false false p q f = let z = leb-false (get_or h c 0) visible q in absurd (omega (arith, l.1))
+    here : All (Live h visible) (16 * n) (16 * (n + 1))
+    here c x y =
+        let k : 16 * n + (c - 16 * n) ≡ c = omega arith in
+        let q : get_or (get_or looks n []) (c - 16 * n) 0 ≡ get_or h c 0 = rw e (rw k at (look_cell 16 m n (c - 16 * n) h l (omega arith))) in
+        rw q at (look (c - 16 * n) (omega arith) (omega arith))
 
--- a cell seen to name another page's entry
-pub other_seen : (h pages : List ℕ) (page c : ℕ) → not (eqb (page_named h pages c) page) ≡ true → Other h pages page c
-other_seen h pages page c e = eqb-false _ _ (not-true _ e)
+-- a cell of a part
+pub cell_of_part : (h : List ℕ) (from n c : ℕ) → c < n → get_or (take n (drop from h)) c 0 ≡ get_or h (from + c) 0
+cell_of_part h from n c l = get_or-take {A = ℕ} n (drop from h) c 0 l ∙ get_or-drop {A = ℕ} from h c 0
+
+-- what is live in a part is live
+pub part_live : (h : List ℕ) (visible from n p : ℕ) → p ≤ n → All (Live (take n (drop from h)) visible) 0 p → All (Live h visible) from (from + p)
+part_live h visible from n p l live c x y =
+    let k : from + (c - from) ≡ c = omega arith in
+    rw k at (rw (cell_of_part h from n (c - from) (omega arith)) at (live (c - from) (omega arith) (omega arith)))
+
+-- a cell of what is left of a run
+pub kept_cell : (rest run : List ℕ) (c : ℕ) → rest ≡ take (length rest) run → c < length rest → get_or rest c 0 ≡ get_or run c 0
+kept_cell rest run c e l = ap (λ (x : List ℕ). get_or x c 0) e ∙ get_or-take {A = ℕ} (length rest) run c 0 l
+
+-- the last look of what is left of a run
+module _ (run rest before look : List ℕ) (kept : rest ≡ take (length rest) run) (within : length rest ≤ length run) (front : before ≡ take (length rest - 8) rest) (back : look ≡ drop (length rest - 8) rest) (size : length before + 8 ≡ length rest) where
+  look_at : (c : ℕ) → length before ≤ c → c < length rest → get_or look (c - length before) 0 ≡ get_or run c 0
+  look_at c l u =
+      let n : length rest - 8 + (c - length before) ≡ c = omega arith in
+      ap (λ (x : List ℕ). get_or x (c - length before) 0) back
+      ∙ get_or-drop {A = ℕ} (length rest - 8) rest (c - length before) 0
+      ∙ ap (λ (k : ℕ). get_or rest k 0) n
+      ∙ ap (λ (x : List ℕ). get_or x c 0) kept
+      ∙ get_or-take {A = ℕ} (length rest) run c 0 u
+
+  before_kept : before ≡ take (length before) run
+  before_kept =
+      let n : length rest - 8 ≡ length before = omega arith in
+      front ∙ ap (λ (k : ℕ). take k rest) n ∙ ap (take (length before)) kept ∙ take-take (length before) (length rest) run (omega arith)
+
+  -- passed, if its cells name others
+  pub look_passed : (pages : List ℕ) (page : ℕ) → All (Other run pages page) (length rest) (length run) → All (Other look pages page) 0 8
+      → (length before ≤ length run) × ((before ≡ take (length before) run) × All (Other run pages page) (length before) (length run))
+  look_passed pages page passed others = (omega arith, (before_kept, all_join (Other run pages page) (length before) (length rest) (length run) here passed))
+    where
+      here : All (Other run pages page) (length before) (length rest)
+      here c l u e = others (c - length before) (omega arith) (omega arith) (rw (look_at c l u) e)

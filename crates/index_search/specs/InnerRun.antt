@@ -1,11 +1,8 @@
 -- Runs of cells of one block's hash table, from one cell up to another, and what the entries that they name say of a page.
 -- Assumes nothing.
-use Rattle.std.specs.Prelude.{◌≡◌, cond, List, ℕ, zero, suc, ◌+◌, ◌-◌, ◌<◌, ◌≤◌, eqb, get_or}
-use Rattle.index_hash.specs.declared.Probe.{Probe}
-use Rattle.index_hash.specs.declared.Probe.TheVariants.{At, Nothing}
+use Rattle.std.specs.Prelude.{Option, Some, None, ◌≡◌, cond, List, ℕ, zero, suc, ◌+◌, ◌-◌, ◌<◌, ◌≤◌, eqb, get_or}
+use Rattle.index_search.specs.declared.probe.Probed.{Probed}
 use Rattle.wal_types.specs.Settings.{block_cells}
-use Rattle.index_search.specs.declared.probe.Near.{Near}
-use Rattle.index_search.specs.declared.probe.Near.TheVariants.{Ended, Further}
 
 -- every number from one up to another has the property
 abbrev pub All : (ℕ → Type 0) → ℕ → ℕ → Type 0
@@ -32,20 +29,20 @@ abbrev pub Other : List ℕ → List ℕ → ℕ → ℕ → Type 0
 Other h pages page c = page_named h pages c ≡ page → ⊥
 
 -- the last entry of the page that one of n cells from a cell on names, or what was met before
-unfoldable pub met_in : List ℕ → List ℕ → ℕ → ℕ → ℕ → Probe → Probe
+unfoldable pub met_in : List ℕ → List ℕ → ℕ → ℕ → ℕ → Option ℕ → Option ℕ
 met_in h pages page from zero before = before
-met_in h pages page from (suc n) before = cond (eqb (page_named h pages (from + n)) page) (At (get_or h (from + n) 0 - 1)) (met_in h pages page from n before)
+met_in h pages page from (suc n) before = cond (eqb (page_named h pages (from + n)) page) (Some (get_or h (from + n) 0 - 1)) (met_in h pages page from n before)
 
 -- the entry that a cell's number names
-abbrev pub entry_named : ℕ → Probe
-entry_named zero = Nothing
-entry_named (suc i) = At i
+abbrev pub entry_named : ℕ → Option ℕ
+entry_named zero = None
+entry_named (suc i) = Some i
 
 -- the near cells from a home on are within the block
 abbrev pub NearFit : ℕ → Type 0
 NearFit home = home + 24 ≤ block_cells
 
 -- a probe of the near cells has ended with the whole probe's answer and the cells that it looks at, or there are further ones
-abbrev pub Answers : Probe → ℕ → Near → Type 0
-Answers whole cells (Ended probed) = (probed.found ≡ whole) × (probed.cells ≡ cells)
-Answers whole cells Further = Unit
+abbrev pub Answers : Option ℕ → ℕ → Option Probed → Type 0
+Answers whole cells (Some probed) = (probed.found ≡ whole) × (probed.cells ≡ cells)
+Answers whole cells None = Unit

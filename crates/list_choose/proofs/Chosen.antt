@@ -2,9 +2,9 @@
 use mathlib.Core.Path.{◌≡◌, refl}
 use mathlib.Core.Bool.{Bool, true, false, cond}
 use mathlib.Core.List.{List, [], ◌∷◌, ◌++◌}
-use Prim.Native.Nat.{ℕ, ◌<◌, ◌≤◌}
+use Prim.Native.Nat.{ℕ}
 use lib.ListN.{get_or}
-use borrow.Author.Tests.{eq-eqb, ne_eqb, le-leb, lt-leb}
+use borrow.Author.Tests.{eq-eqb, ne_eqb}
 use Rattle.wal_types.specs.Settings.{within}
 use Rattle.list_choose.specs.Chosen.{in_bounds, firsts_after, firsts}
 
@@ -25,10 +25,9 @@ module _ (pages : List ℕ) where
   unfolding firsts
   firsts_of_none = refl
 
-  -- any other page will do before the first entry
-  pub firsts_start : (q e : ℕ) (l : List ℕ) → (get_or pages e 0 ≡ q → ⊥) → firsts_after pages q (e ∷ l) ≡ firsts pages (e ∷ l)
+  pub firsts_of_first : (e : ℕ) (l : List ℕ) → firsts pages (e ∷ l) ≡ e ∷ firsts_after pages (get_or pages e 0) l
   unfolding firsts
-  firsts_start q e l p = firsts_take q e l p
+  firsts_of_first e l = refl
 
 -- Within the bounds, one entry at a time.
 module _ (frames : List ℕ) (low high : ℕ) where
@@ -43,15 +42,3 @@ module _ (frames : List ℕ) (low high : ℕ) where
   pub bounds_nil : in_bounds frames low high [] ≡ []
   unfolding in_bounds
   bounds_nil = refl
-
-  pub bounds_in : (e : ℕ) → low ≤ get_or frames e 0 → get_or frames e 0 ≤ high → in_bounds frames low high (e ∷ []) ≡ e ∷ []
-  unfolding in_bounds
-  bounds_in e a b = rw (le-leb _ _ a, le-leb _ _ b)
-
-  pub bounds_low : (e : ℕ) → get_or frames e 0 < low → in_bounds frames low high (e ∷ []) ≡ []
-  unfolding in_bounds
-  bounds_low e a = rw (lt-leb _ _ a)
-
-  pub bounds_high : (e : ℕ) → low ≤ get_or frames e 0 → high < get_or frames e 0 → in_bounds frames low high (e ∷ []) ≡ []
-  unfolding in_bounds
-  bounds_high e a b = rw (le-leb _ _ a, lt-leb _ _ b)

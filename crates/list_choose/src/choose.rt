@@ -4,14 +4,8 @@ ghost use Rattle.list_choose.specs.Chosen.{in_bounds, firsts};
 
 use list_sort::cell_of;
 
-// Some other page. Every number is a page, so none could stand for "no page yet" before the first entry.
-fn other_page(page: u64) -> u64
-    ensures { page ≡ result → ⊥ }
-{
-    if page == 0 { 1 } else { 0 }
-}
-
-// An entry, if its frame is within the bounds, is put behind those that are chosen.
+// An entry, if its frame is within the bounds, is put behind those that are chosen. They are counted: nothing is allocated.
+#[tactic(auto, using(std::proofs::lemmas::List::take_more_set), unfolding(crate::specs::Chosen::in_bounds))]
 fn choose_entry(
     frames: &[u64],
     entry: u16,
@@ -23,11 +17,7 @@ fn choose_entry(
     requires { count < length chosen.old }
     ensures { (result ≤ count + 1) × (take result chosen.new ≡ take count chosen.old ++ in_bounds frames.now min_frame max_frame (entry ∷ [])) }
 {
-    let frame = cell_of(frames, entry);
-    if frame < min_frame {
-        return count;
-    }
-    if max_frame < frame {
+    if !(min_frame..=max_frame).contains(&cell_of(frames, entry)) {
         return count;
     }
     chosen[count] = entry;
@@ -47,20 +37,18 @@ pub fn choose(
     requires { length list.now ≤ length chosen.old }
     ensures { (result ≤ length list.now) × (take result chosen.new ≡ in_bounds frames.now min_frame max_frame (firsts pages.now list.now)) }
 {
-    if list.len() == 0 {
+    let Some((first, rest)) = list.split_first() else {
         return 0;
-    }
-    let mut last = other_page(cell_of(pages, list[0]));
-    let mut count = 0;
-    let mut at = 0;
-    while at < list.len() {
-        let entry = list[at];
-        let page = cell_of(pages, entry);
-        at += 1;
-        if page != last {
-            last = page;
-            count = choose_entry(frames, entry, min_frame, max_frame, chosen, count);
+    };
+    let mut last = cell_of(pages, *first);
+    let mut count = choose_entry(frames, *first, min_frame, max_frame, chosen, 0);
+    for entry in rest {
+        let page = cell_of(pages, *entry);
+        if page == last {
+            continue;
         }
+        last = page;
+        count = choose_entry(frames, *entry, min_frame, max_frame, chosen, count);
     }
     count
 }
@@ -76,11 +64,8 @@ pub fn write_pairs(
     requires { (length entries.now ≤ length out_pages.old) × (length entries.now ≤ length out_frames.old) }
     ensures { (out_pages.new ≡ map (λ e. get_or pages.now e 0) entries.now ++ drop (length entries.now) out_pages.old) × (out_frames.new ≡ map (λ e. get_or frames.now e 0) entries.now ++ drop (length entries.now) out_frames.old) }
 {
-    let mut i = 0;
-    while i < entries.len() {
-        let entry = entries[i];
-        out_pages[i] = cell_of(pages, entry);
-        out_frames[i] = cell_of(frames, entry);
-        i += 1;
+    for (i, entry) in entries.iter().enumerate() {
+        out_pages[i] = cell_of(pages, *entry);
+        out_frames[i] = cell_of(frames, *entry);
     }
 }

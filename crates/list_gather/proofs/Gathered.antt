@@ -2,11 +2,9 @@
 use mathlib.Core.Path.{◌≡◌, refl, sym, ap, ◌∙◌}
 use mathlib.Core.Bool.{true, false}
 use mathlib.Core.List.{List, [], ◌∷◌, ◌++◌, append_assoc, append-nil}
-use Prim.Native.Nat.{ℕ, zero, suc, ◌+◌, ◌-◌, ◌<◌, ◌≤◌}
-use native.Mathlib.Numerals.{add-one}
+use Prim.Native.Nat.{ℕ, zero, suc, ◌-◌, ◌<◌}
 use native.Mathlib.Omega.{arith}
-use lib.ListN.{length, get_or, take, set}
-use lib.Seq.{take-suc-set, length-take-le, get_or-take}
+use lib.ListN.{length, get_or}
 use Rattle.list_sort.specs.InnerSorted.{page_of}
 use Rattle.list_sort.proofs.Keys.{by_eqb, having_nil, having_same, having_other, having_append}
 use Rattle.list_gather.specs.Named.{named}
@@ -55,10 +53,6 @@ module _ (hash : List ℕ) (n : ℕ) (some : 0 < n) where
   unfolding down
   down_unnamed e = let s : n ≡ suc (n - 1) = omega arith in ap (down hash) s ∙ rw e
 
--- one element put behind the first n
-pub take_more : (l : List ℕ) (n x : ℕ) → n < length l → take (n + 1) (set l n x) ≡ take n l ++ (x ∷ [])
-take_more l n x b = rw add-one (take-suc-set l n x b)
-
 -- Gathered: what is gathered, with what is to come, has the first entries of the whole.
 unfoldable pub Gathers : List ℕ → List ℕ → List ℕ → ℕ → List ℕ → Type 0
 Gathers pages hash l n whole = (page : ℕ) → head_of pages page (l ++ down hash n) ≡ head_of pages page whole
@@ -76,22 +70,25 @@ module _ (pages hash l : List ℕ) (n : ℕ) (whole : List ℕ) (so_far : Gather
   unfolding Gathers
   gathers_append e next m page = rw (m, append_assoc) (rw (down_named hash n some e) at (so_far page))
 
--- an entry is left out behind one of its page
-pub gathers_skip :
-    (pages hash list : List ℕ) (count n : ℕ) (whole : List ℕ) → Gathers pages hash (take count list) n whole → 0 < n → named hash (n - 1) ≡ true
-    → (j page : ℕ) → j < count → count ≤ length list → get_or pages (get_or list j 0) 0 ≡ page → page ≡ get_or pages (n - 1) 0
-    → Gathers pages hash (take count list) (n - 1) whole
-unfolding Gathers
-gathers_skip pages hash list count n whole so_far some e j page a b p q x =
-    let l = length-take-le count list b in
-    head_skip pages x (take count list) (n - 1) (down hash (n - 1)) j (omega arith) (rw (get_or-take count list j 0 a) (p ∙ q))
-    ∙ (rw (down_named hash n some e) at (so_far x))
+  -- an entry is left out behind one of its page
+  pub gathers_skip : named hash (n - 1) ≡ true → (j page : ℕ) → j < length l → get_or pages (get_or l j 0) 0 ≡ page → page ≡ get_or pages (n - 1) 0 → Gathers pages hash l (n - 1) whole
+  unfolding Gathers
+  gathers_skip e j page a p q x = head_skip pages x l (n - 1) (down hash (n - 1)) j a (p ∙ q) ∙ (rw (down_named hash n some e) at (so_far x))
 
+-- all of a block
 pub gathers_end : (pages hash l : List ℕ) (n m : ℕ) (whole : List ℕ) → Gathers pages hash l n whole → n ≡ m → (page : ℕ) → head_of pages page (l ++ down hash m) ≡ head_of pages page whole
 unfolding Gathers
 gathers_end pages hash l n m whole so_far e page = rw e at (so_far page)
 
+-- one block more
+pub gathers_block :
+    (pages hash l next : List ℕ) (n m first end : ℕ) (whole : List ℕ) → n ≡ end → m ≡ first
+    → ((page : ℕ) → head_of pages page (next ++ down hash first) ≡ head_of pages page (l ++ down hash end))
+    → Gathers pages hash l n whole → Gathers pages hash next m whole
+unfolding Gathers
+gathers_block pages hash l next n m first end whole p q block so_far page = rw q (block page ∙ (rw p at (so_far page)))
+
 -- nothing is to come
-pub gathered_all : (pages hash l : List ℕ) (n : ℕ) (whole : List ℕ) → n ≡ 0 → ((page : ℕ) → head_of pages page (l ++ down hash n) ≡ head_of pages page whole) → (page : ℕ) → head_of pages page l ≡ head_of pages page whole
-unfolding down
+pub gathered_all : (pages hash l : List ℕ) (n : ℕ) (whole : List ℕ) → n ≡ 0 → Gathers pages hash l n whole → (page : ℕ) → head_of pages page l ≡ head_of pages page whole
+unfolding Gathers down
 gathered_all pages hash l n whole e all page = rw (e, append-nil) at (all page)

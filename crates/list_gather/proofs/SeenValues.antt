@@ -1,94 +1,76 @@
 -- The values that a block's cells have. Assumes nothing.
-use mathlib.Core.Path.{◌≡◌, refl, sym, ap, ◌∙◌}
-use mathlib.Core.Bool.{Bool, true, false, ◌||◌}
-use mathlib.Core.List.{List, [], ◌∷◌}
-use Prim.Native.Nat.{ℕ, zero, suc, ◌+◌, ◌-◌, ◌*◌, ◌/◌, ◌%◌, ◌<◌, ◌≤◌}
-use native.Mathlib.Nat.{add-zero}
-use native.Mathlib.Numerals.{add-one}
-use native.Mathlib.Omega.{arith}
-use lib.Dec.{eqb}
-use lib.ListN.{length, get_or, set, take, drop, drop_of_length-le}
-use lib.Seq.{drop-cons, get_or-set_same, get_or-set_other}
+use Rattle.std.proofs.Common.{◌≡◌, ℕ, zero, suc, ◌+◌, ◌-◌, ◌*◌, ◌/◌, ◌%◌, ◌<◌, ◌≤◌, Bool, true, false, ◌||◌, eqb, List, [], ◌++◌, length, get_or, take, drop, set, replicate, mul-zero, mul-suc, drop-drop, refl, sym, ◌∙◌, arith}
+use Rattle.std.proofs.lemmas.List.Folds.{list_any_more, list_any-append}
+use Rattle.std.proofs.Math.Seq.{take-add, get_or-set_same, get_or-set_other}
+use Rattle.std.specs.Simd.{first_chunks}
 use borrow.Author.Tests.{eq-eqb, ne_eqb}
 use Rattle.index_find.specs.Index.{block_cells_of}
 use Rattle.index_find.proofs.Blocks.{mid_cells, length_block}
 use Rattle.list_sort.proofs.Keys.{by_eqb}
 use Rattle.list_gather.specs.Named.{has_cell, named}
-use Rattle.list_gather.specs.InnerGathered.{known}
 
 or_true : (t : Bool) → (t || true) ≡ true
 or_true true = refl
 or_true false = refl
 
-or_false : (t : Bool) → (t || false) ≡ t
+pub or_false : (t : Bool) → (t || false) ≡ t
 or_false true = refl
 or_false false = refl
 
-has_next : (c v : ℕ) (rest : List ℕ) → has_cell (c ∷ rest) v ≡ (eqb c v || has_cell rest v)
-unfolding has_cell
-has_next c v rest = refl
+or_assoc : (a b c : Bool) → ((a || b) || c) ≡ (a || (b || c))
+or_assoc true b c = refl
+or_assoc false b c = refl
 
-has_none : (v : ℕ) → has_cell [] v ≡ false
+pub has_none : (v : ℕ) → has_cell [] v ≡ false
 unfolding has_cell
 has_none v = refl
 
--- no seen, and no cell passed
-pub known_none : (cells seen : List ℕ) → ((v : ℕ) → v < 4097 → get_or seen v 0 ≡ 0) → (v : ℕ) → v < 4097 → known cells 0 seen v ≡ has_cell cells v
-unfolding known
-known_none cells seen all v b = rw (all v b)
+has_both : (a b : List ℕ) (v : ℕ) → has_cell (a ++ b) v ≡ (has_cell a v || has_cell b v)
+unfolding has_cell
+has_both a b v = list_any-append (λ c. eqb c v) a b
 
--- every cell passed
-pub known_all : (cells seen : List ℕ) (i : ℕ) → length cells ≤ i → (v : ℕ) → eqb (get_or seen v 0) 1 ≡ known cells i seen v
-unfolding known
-known_all cells seen i e v = rw (drop_of_length-le cells e, has_none v) (sym (or_false _))
+-- eight empty cells have no value from 1 on
+has_empty : (v : ℕ) → 0 < v → has_cell (replicate 8 0) v ≡ false
+unfolding has_cell
+has_empty v s = rw (ne_eqb 0 v (λ e. absurd (omega arith)))
 
-module _ (cells : List ℕ) (i : ℕ) (b : i < length cells) (seen : List ℕ) (v : ℕ) where
-  next_cell : has_cell (drop i cells) v ≡ (eqb (get_or cells i 0) v || has_cell (drop (i + 1) cells) v)
-  next_cell = rw (add-one, drop-cons cells i 0 b) (has_next (get_or cells i 0) v (drop (suc i) cells))
+-- one cell more of a run
+module _ (run : List ℕ) (i : ℕ) (b : i < length run) (v : ℕ) where
+  has_more : has_cell (take (i + 1) run) v ≡ (has_cell (take i run) v || eqb (get_or run i 0) v)
+  unfolding has_cell
+  has_more = list_any_more (λ c. eqb c v) run i 0 b
 
-  -- a cell that has another value
-  pub known_other : (get_or cells i 0 ≡ v → ⊥) → known cells (i + 1) seen v ≡ known cells i seen v
-  unfolding known
-  known_other e = rw (next_cell, ne_eqb (get_or cells i 0) v e)
+  -- it has another value
+  has_other : (get_or run i 0 ≡ v → ⊥) → has_cell (take (i + 1) run) v ≡ has_cell (take i run) v
+  has_other e = rw (has_more, ne_eqb (get_or run i 0) v e) (or_false (has_cell (take i run) v))
 
-  -- a cell whose value is noted
-  pub known_noted : (u : ℕ) → u ≡ get_or cells i 0 → u < length seen → known cells (i + 1) (set seen u 1) v ≡ known cells i seen v
-  unfolding known
-  known_noted u same l =
-      by_eqb _ u v
-      (λ e. rw (next_cell, eq-eqb (get_or cells i 0) v (sym same ∙ e), ← e, get_or-set_same seen u 1 0 l) (sym (or_true (eqb (get_or seen u 0) 1))))
-      (λ e. rw (next_cell, ne_eqb (get_or cells i 0) v (λ p. e (same ∙ p)), get_or-set_other seen u v 1 0 (λ p. e (sym p))))
+  module _ (t : Bool) (seen : List Bool) (so_far : get_or seen v false ≡ (t || has_cell (take i run) v)) where
+    pub noted_other : (get_or run i 0 ≡ v → ⊥) → get_or seen v false ≡ (t || has_cell (take (i + 1) run) v)
+    noted_other e = rw (has_other e) so_far
 
--- eight cells whose sum is 0 are empty
-pub eight_empty :
-    (cells : List ℕ) (from a b : ℕ)
-    → a ≡ get_or cells from 0 + get_or cells (from + 1) 0 + get_or cells (from + 2) 0 + get_or cells (from + 3) 0
-    → b ≡ get_or cells (from + 4) 0 + get_or cells (from + 4 + 1) 0 + get_or cells (from + 4 + 2) 0 + get_or cells (from + 4 + 3) 0
-    → a + b ≡ 0 → (k : ℕ) → k < 8 → get_or cells (from + k) 0 ≡ 0
-eight_empty cells from a b p q s zero l = rw add-zero (omega arith)
-eight_empty cells from a b p q s (suc zero) l = omega arith
-eight_empty cells from a b p q s (suc (suc zero)) l = omega arith
-eight_empty cells from a b p q s (suc (suc (suc zero))) l = omega arith
-eight_empty cells from a b p q s (suc (suc (suc (suc k)))) l = rest k (omega arith)
-  where
-    at : (j : ℕ) → get_or cells (from + 4 + j) 0 ≡ 0 → get_or cells (from + (4 + j)) 0 ≡ 0
-    at j e = ap (λ (x : ℕ). get_or cells x 0) (let r : from + (4 + j) ≡ from + 4 + j = omega arith in r) ∙ e
+    -- its value is noted
+    pub noted_next : get_or run i 0 < length seen → get_or (set seen (get_or run i 0) true) v false ≡ (t || has_cell (take (i + 1) run) v)
+    noted_next l =
+        by_eqb _ (get_or run i 0) v
+        (λ e. rw (has_more, eq-eqb (get_or run i 0) v e, or_true (has_cell (take i run) v), or_true t) (rw (← e) (get_or-set_same seen (get_or run i 0) true false l)))
+        (λ e. get_or-set_other seen (get_or run i 0) v true false (λ p. e (sym p)) ∙ noted_other e)
 
-    rest : (j : ℕ) → j < 4 → get_or cells (from + suc (suc (suc (suc j)))) 0 ≡ 0
-    rest zero b = omega arith
-    rest (suc zero) b = at 1 (omega arith)
-    rest (suc (suc zero)) b = at 2 (omega arith)
-    rest (suc (suc (suc zero))) b = at 3 (omega arith)
-    rest (suc (suc (suc (suc j)))) b = absurd (omega arith)
+-- a run among those of a list
+pub run_at : (n k : ℕ) (l : List ℕ) (i : ℕ) (d : List ℕ) → i < k → get_or (first_chunks n k l) i d ≡ take n (drop (n * i) l)
+run_at n zero l i d b = absurd (omega arith)
+run_at n (suc k) l zero d b = rw mul-zero
+run_at n (suc k) l (suc i) d b = run_at n k (drop n l) i d (omega arith) ∙ (let e : n + n * i ≡ n * suc i = rw mul-suc (omega arith) in rw (drop-drop, e))
 
--- a run of empty cells
-pub known_empty : (cells : List ℕ) (i m : ℕ) → i + m ≤ length cells → ((k : ℕ) → k < m → get_or cells (i + k) 0 ≡ 0) → (seen : List ℕ) (v : ℕ) → 0 < v → known cells (i + m) seen v ≡ known cells i seen v
-known_empty cells i zero b all seen v s = rw add-zero
-known_empty cells i (suc m) b all seen v s =
-    let e : i + suc m ≡ i + m + 1 = omega arith in
-    rw e
-    (known_other cells (i + m) (omega arith) seen v (λ p. let z = all m (omega arith) in absurd (omega arith))
-    ∙ known_empty cells i m (omega arith) (λ k l. all k (omega arith)) seen v s)
+-- one run more of the cells
+module _ (cells : List ℕ) (i v : ℕ) (b : 8 * i + 8 ≤ length cells) (seen : Bool) (so_far : seen ≡ has_cell (take (8 * i) cells) v) where
+  runs_more : has_cell (take (8 * (i + 1)) cells) v ≡ (has_cell (take (8 * i) cells) v || has_cell (take 8 (drop (8 * i) cells)) v)
+  runs_more = let e : 8 * (i + 1) ≡ 8 * i + 8 = omega arith in rw (e, take-add (8 * i) 8 cells) (has_both (take (8 * i) cells) (take 8 (drop (8 * i) cells)) v)
+
+  pub run_noted : (new : Bool) → new ≡ (seen || has_cell (take 8 (drop (8 * i) cells)) v) → new ≡ has_cell (take (8 * (i + 1)) cells) v
+  run_noted new e = rw (runs_more, ← so_far) e
+
+  pub run_empty : 0 < v → take 8 (drop (8 * i) cells) ≡ replicate 8 0 → seen ≡ has_cell (take (8 * (i + 1)) cells) v
+  run_empty s e = rw (runs_more, e, has_empty v s, or_false) so_far
 
 -- whether a cell of block k names entry n
 named_in_block : (hash : List ℕ) (k n : ℕ) → 4096 * k ≤ n → n < 4096 * k + 4096 → named hash n ≡ has_cell (block_cells_of k hash) (n - 4096 * k + 1)
@@ -99,9 +81,9 @@ named_in_block hash k n a b =
     rw (p, q)
 
 pub named_if_seen :
-    (hash seen : List ℕ) (k : ℕ)
-    → ((v : ℕ) → 0 < v → v < 4097 → eqb (get_or seen v 0) 1 ≡ has_cell (take (8192 * k + 8192 - 8192 * k) (drop (8192 * k) hash)) v)
-    → (n : ℕ) → 4096 * k ≤ n → n < 4096 * k + 4096 → named hash n ≡ eqb (get_or seen (n - 4096 * k + 1) 0) 1
+    (hash : List ℕ) (seen : List Bool) (k : ℕ)
+    → ((v : ℕ) → 0 < v → v < 4097 → get_or seen v false ≡ has_cell (take (8192 * k + 8192 - 8192 * k) (drop (8192 * k) hash)) v)
+    → (n : ℕ) → 4096 * k ≤ n → n < 4096 * k + 4096 → named hash n ≡ get_or seen (n - 4096 * k + 1) false
 named_if_seen hash seen k all n a b =
     named_in_block hash k n a b ∙ sym (rw (mid_cells k hash) at (all (n - 4096 * k + 1) (omega arith) (omega arith)))
 

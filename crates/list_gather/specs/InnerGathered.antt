@@ -1,11 +1,7 @@
--- How the named entries are gathered: by the values seen in the cells, from the last down; and the first entry of a page. Assumes nothing.
-use Rattle.std.specs.Prelude.{Bool, ◌||◌, cond, List, [], ◌∷◌, ℕ, zero, suc, eqb, get_or, take, drop}
+-- How the named entries are gathered: from the last down; and the first entry of a page. Assumes nothing.
+use Rattle.std.specs.Prelude.{cond, List, [], ◌∷◌, ℕ, zero, suc, take}
 use Rattle.list_sort.specs.InnerSorted.{having, page_of}
-use Rattle.list_gather.specs.Named.{has_cell, named}
-
--- the value is noted, or one of the cells from the i-th on has it
-unfoldable pub known : List ℕ → ℕ → List ℕ → ℕ → Bool
-known cells i seen v = eqb (get_or seen v 0) 1 || has_cell (drop i cells) v
+use Rattle.list_gather.specs.Named.{named}
 
 -- the named ones of the first n entries, from the last down
 unfoldable pub down : List ℕ → ℕ → List ℕ

@@ -1,11 +1,11 @@
 -- The entries that the hash names. Assumes nothing.
-use Rattle.std.specs.Prelude.{Bool, false, ◌||◌, List, [], ◌∷◌, ℕ, ◌+◌, eqb}
+use Rattle.std.specs.Prelude.{Bool, List, ℕ, ◌+◌, eqb}
+use Rattle.std.specs.List.{list_any}
 use Rattle.index_find.specs.Index.{block_of, place_of, block_cells_of}
 
 -- some cell holds this value
 unfoldable pub has_cell : List ℕ → ℕ → Bool
-has_cell [] v = false
-has_cell (c ∷ rest) v = eqb c v || has_cell rest v
+has_cell cells v = list_any (λ c. eqb c v) cells
 
 -- a cell of its block's hash names entry n
 unfoldable pub named : List ℕ → ℕ → Bool

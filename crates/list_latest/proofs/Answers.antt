@@ -2,60 +2,30 @@
 use mathlib.Core.Path.{◌≡◌, refl, sym, ap, ap₂, subst, ◌∙◌}
 use mathlib.Core.Bool.{Bool, true, false, ◌||◌, cond}
 use mathlib.Core.List.{List, [], ◌∷◌, ◌++◌, map, map-map}
-use Prim.Native.Nat.{ℕ, zero, suc, ◌+◌, ◌*◌, ◌/◌, ◌<◌, ◌≤◌}
+use Prim.Native.Nat.{ℕ, zero, suc}
 use native.Mathlib.Omega.{arith}
 use lib.Dec.{ltb}
-use lib.ListN.{length, get_or, take, drop, length-map}
-use lib.Seq.{length-take-le}
-use borrow.Author.Tests.{lt-ltb, le-ltb}
+use lib.ListN.{length, get_or, drop, length-map}
+use borrow.Author.Tests.{le-ltb}
 use Rattle.wal_types.specs.declared.Header.{Header}
 use Rattle.wal_types.specs.Memory.{Memory, Process}
 use Rattle.wal_types.specs.Store.{apply}
-use Rattle.wal_types.specs.Refusal.{Test, ◌if◌, settings, short_memory, short_list, lowest}
+use Rattle.wal_types.specs.Refusal.{Test, ◌if◌, lowest, number}
+use Rattle.wal_types.specs.declared.refusal.Refusal.TheVariants.{Settings, ShortMemory, ShortList}
 use Rattle.wal_types.specs.Call.{Pair, pair, Call, Outcome, Done, accepted_or, listed, refused, done, after}
 use Rattle.index_find.specs.Index.{bad_settings, short_index, index_refusal, index_in}
 use Rattle.index_find.specs.Find.{visible}
-use Rattle.index_find.proofs.Settings.{good_settings, long_enough}
-use Rattle.list_latest.specs.declared.ListAnswer.{ListAnswer}
-use Rattle.list_latest.specs.declared.ListAnswer.TheVariants.{Pairs, Refused}
+use Rattle.std.specs.Prelude.{Result, Ok, Err}
+use Rattle.wal_types.specs.declared.refusal.Refusal.{Refusal}
+use Rattle.wal_types.proofs.Refusals.{number_not_zero}
 use Rattle.list_choose.specs.Chosen.{in_bounds}
 use Rattle.list_latest.specs.Latest.{latest, iter_latest_frames}
 use Rattle.list_latest.specs.InnerResult.{IsListed, IsRefused, Lists}
 use Rattle.list_latest.specs.InnerWritten.{Written, TooMany, Writes}
 
--- What is written, by the entries that were chosen into the spare.
-module _ (entries spare : List ℕ) (count : ℕ) (fits : count ≤ length spare) (chosen : take count spare ≡ entries) where
-  count_entries : count ≡ length entries
-  count_entries = sym (length-take-le count spare fits) ∙ ap length chosen
-
-  module _ (old_pages old_frames : List ℕ) where
-    pub short_pages : length old_pages < count → TooMany entries 5 old_pages old_frames old_pages old_frames
-    short_pages b =
-        let e = count_entries in
-        record { number_5 = refl; short = rw (lt-ltb (length old_pages) (length entries) (omega arith)); pages_kept = refl; frames_kept = refl }
-
-    pub short_frames : count ≤ length old_pages → length old_frames < count → TooMany entries 5 old_pages old_frames old_pages old_frames
-    short_frames a b =
-        let e = count_entries in
-        record { number_5 = refl; short = rw (le-ltb (length old_pages) (length entries) (omega arith), lt-ltb (length old_frames) (length entries) (omega arith)); pages_kept = refl; frames_kept = refl }
-
-    pub all_written :
-        (pages frames new_pages new_frames : List ℕ) → count ≤ length old_pages → count ≤ length old_frames
-        → new_pages ≡ map (λ e. get_or pages e 0) (take count spare) ++ drop (length (take count spare)) old_pages
-        → new_frames ≡ map (λ e. get_or frames e 0) (take count spare) ++ drop (length (take count spare)) old_frames
-        → Written pages frames entries count old_pages old_frames new_pages new_frames
-    all_written pages frames new_pages new_frames a b p q =
-        record {
-          count = count_entries;
-          pages_room = a;
-          frames_room = b;
-          pages_written = p ∙ ap₂ (λ (l : List ℕ) (n : ℕ). map (λ e. get_or pages e 0) l ++ drop n old_pages) chosen (length-take-le count spare fits);
-          frames_written = q ∙ ap₂ (λ (l : List ℕ) (n : ℕ). map (λ e. get_or frames e 0) l ++ drop n old_frames) chosen (length-take-le count spare fits);
-        }
-
 -- The three tests.
 abbrev three : Bool → Bool → Bool → List Test
-three bad short many = (settings if bad) ∷ (short_memory if short) ∷ (short_list if many) ∷ []
+three bad short many = (Settings if bad) ∷ (ShortMemory if short) ∷ (ShortList if many) ∷ []
 
 none_applies : (bad short : Bool) → ◌≡◌ {A = ℕ} 0 (cond bad 1 (cond short 2 0)) → (bad ≡ false) × (short ≡ false)
 none_applies true short e = absurd (omega arith)
@@ -79,22 +49,6 @@ by_number n o m p = done (accepted_or n p o).answer (apply (accepted_or n p o).s
 turned_away : (n : ℕ) (o : Outcome) (m : Memory) (p : Process) → (n ≡ 0 → ⊥) → by_number n o m p ≡ done (refused n) m p
 turned_away zero o m p e = absurd (e refl)
 turned_away (suc n) o m p e = refl
-
--- with neither refusal 1 nor 2, the entries and their blocks are there
-module _ (capacity b : ℕ) (h : Header) (pages frames hash : ℕ) (ok : 0 ≡ index_refusal capacity b h pages frames hash) where
-  pub frames_there : h.frame_index_len ≤ frames
-  frames_there =
-      let n = none_applies (bad_settings capacity b h) (short_index b pages frames hash) ok in
-      let g = good_settings capacity b h n.0 in
-      let m = long_enough b pages frames hash n.1 in
-      omega arith
-
-  pub blocks_there : (v : ℕ) → v ≤ h.frame_index_len → (v ≤ 65536) × (8192 * ((v + 4095) / 4096) ≤ hash)
-  blocks_there v l =
-      let n = none_applies (bad_settings capacity b h) (short_index b pages frames hash) ok in
-      let g = good_settings capacity b h n.0 in
-      let m = long_enough b pages frames hash n.1 in
-      (omega arith, omega arith)
 
 module _ (capacity b : ℕ) (h : Header) (pages frames hash : List ℕ) (low high : ℕ) (old_pages old_frames new_pages new_frames : List ℕ) where
   -- the entries that are listed, and their pairs
@@ -126,15 +80,15 @@ module _ (capacity b : ℕ) (h : Header) (pages frames hash : List ℕ) (low hig
 
   -- refusals 1 and 2
   pub refused_first :
-      (n : ℕ) → n ≡ index_refusal capacity b h (length pages) (length frames) (length hash) → (n ≡ 0 → ⊥)
+      (r : Refusal) → number r ≡ index_refusal capacity b h (length pages) (length frames) (length hash)
       → new_pages ≡ old_pages → new_frames ≡ old_frames
-      → (z : Memory) (p : Process) → IsRefused (iter_latest_frames capacity b low high (length old_pages) (length old_frames)) (index_in z h pages frames hash) p n old_pages old_frames new_pages new_frames
-  refused_first n e s kp kf z p =
+      → (z : Memory) (p : Process) → IsRefused (iter_latest_frames capacity b low high (length old_pages) (length old_frames)) (index_in z h pages frames hash) p r old_pages old_frames new_pages new_frames
+  refused_first r e kp kf z p =
       record {
         answered =
             by_tests z p
-            ∙ ap (λ (k : ℕ). by_number k (listing p) (index_in z h pages frames hash) p) (first_two bad short many n e s)
-            ∙ turned_away n (listing p) (index_in z h pages frames hash) p s;
+            ∙ ap (λ (k : ℕ). by_number k (listing p) (index_in z h pages frames hash) p) (first_two bad short many (number r) e (number_not_zero r))
+            ∙ turned_away (number r) (listing p) (index_in z h pages frames hash) p (number_not_zero r);
         pages_kept = kp;
         frames_kept = kf;
       }
@@ -164,21 +118,21 @@ module _ (capacity b : ℕ) (h : Header) (pages frames hash : List ℕ) (low hig
             let b = w.frames_room in
             rw (le-ltb (length old_pages) (length entries) (omega arith), le-ltb (length old_frames) (length entries) (omega arith))
 
-    too_many : (n : ℕ) → TooMany entries n old_pages old_frames new_pages new_frames → (z : Memory) (p : Process) → IsRefused call (index_in z h pages frames hash) p n old_pages old_frames new_pages new_frames
-    too_many n w z p =
+    too_many : (r : Refusal) → TooMany entries r old_pages old_frames new_pages new_frames → (z : Memory) (p : Process) → IsRefused call (index_in z h pages frames hash) p r old_pages old_frames new_pages new_frames
+    too_many r w z p =
         record {
-          answered = by_room true w.short z p ∙ ap (λ (k : ℕ). done (refused k) (index_in z h pages frames hash) p) (sym w.number_5);
+          answered = by_room true w.short z p ∙ ap (λ (k : Refusal). done (refused (number k)) (index_in z h pages frames hash) p) (sym w.too_few_cells);
           pages_kept = w.pages_kept;
           frames_kept = w.frames_kept;
         }
 
-    listed_visible : (r : ListAnswer) → Writes pages frames entries r old_pages old_frames new_pages new_frames → (z : Memory) (p : Process) → Lists call (index_in z h pages frames hash) p r old_pages old_frames new_pages new_frames
-    listed_visible (Pairs n) w = all_listed n w
-    listed_visible (Refused n) w = too_many n w
+    listed_visible : (r : Result ℕ Refusal) → Writes pages frames entries r old_pages old_frames new_pages new_frames → (z : Memory) (p : Process) → Lists call (index_in z h pages frames hash) p r old_pages old_frames new_pages new_frames
+    listed_visible (Ok n) w = all_listed n w
+    listed_visible (Err r) w = too_many r w
 
     -- what was written is what the call lists
     pub listed_or_short :
-        (v : ℕ) → v ≡ visible frames h.frame_index_len high → (r : ListAnswer)
+        (v : ℕ) → v ≡ visible frames h.frame_index_len high → (r : Result ℕ Refusal)
         → Writes pages frames (in_bounds frames low high (latest pages hash v)) r old_pages old_frames new_pages new_frames
         → (z : Memory) (p : Process) → Lists (iter_latest_frames capacity b low high (length old_pages) (length old_frames)) (index_in z h pages frames hash) p r old_pages old_frames new_pages new_frames
     listed_or_short v e r w =

@@ -6,10 +6,11 @@ use Prim.Native.Nat.{ℕ, zero, suc, ◌<◌, ◌≤◌}
 use native.Mathlib.Decide.{dec_le}
 use native.Mathlib.Omega.{arith}
 use lib.ListN.{length, get_or}
+use borrow.Author.Tests.{le-leb, lt-leb}
 use Rattle.list_sort.proofs.Keys.{by_eqb}
 use Rattle.list_gather.specs.Named.{named}
 use Rattle.list_choose.specs.Chosen.{in_bounds}
-use Rattle.list_choose.proofs.Chosen.{bounds_next, bounds_nil, bounds_in, bounds_low, bounds_high}
+use Rattle.list_choose.proofs.Chosen.{bounds_next, bounds_nil}
 use Rattle.list_latest.specs.Latest.{put_entry, latest}
 use Rattle.list_latest.proofs.Put.{by_order, put_last, put_before, put_over, put_behind}
 
@@ -163,17 +164,29 @@ module _ (pages hash : List ℕ) where
 
 -- Of the latest entries, those whose frame is within the bounds.
 module _ (frames : List ℕ) (low high : ℕ) where
+  bounds_in : (e : ℕ) → low ≤ get_or frames e 0 → get_or frames e 0 ≤ high → in_bounds frames low high (e ∷ []) ≡ e ∷ []
+  unfolding in_bounds
+  bounds_in e a b = rw (le-leb _ _ a, le-leb _ _ b)
+
+  bounds_low : (e : ℕ) → get_or frames e 0 < low → in_bounds frames low high (e ∷ []) ≡ []
+  unfolding in_bounds
+  bounds_low e a = rw (lt-leb _ _ a)
+
+  bounds_high : (e : ℕ) → low ≤ get_or frames e 0 → high < get_or frames e 0 → in_bounds frames low high (e ∷ []) ≡ []
+  unfolding in_bounds
+  bounds_high e a b = rw (le-leb _ _ a, lt-leb _ _ b)
+
   -- an entry is within the bounds, or is left out
   by_bounds : (P : Type 0) (t : ℕ) → (low ≤ get_or frames t 0 → get_or frames t 0 ≤ high → P) → (in_bounds frames low high (t ∷ []) ≡ [] → P) → P
   by_bounds P t f g = go (dec_le low (get_or frames t 0)) (dec_le (get_or frames t 0) high)
     where
       go : Dec (low ≤ get_or frames t 0) → Dec (get_or frames t 0 ≤ high) → P
-      go (no a) d = g (bounds_low frames low high t (omega arith))
-      go (yes a) (no b) = g (bounds_high frames low high t a (omega arith))
+      go (no a) d = g (bounds_low t (omega arith))
+      go (yes a) (no b) = g (bounds_high t a (omega arith))
       go (yes a) (yes b) = f a b
 
   bounds_keep : (t : ℕ) (l : List ℕ) → low ≤ get_or frames t 0 → get_or frames t 0 ≤ high → in_bounds frames low high (t ∷ l) ≡ t ∷ in_bounds frames low high l
-  bounds_keep t l a b = bounds_next frames low high t l ∙ rw (bounds_in frames low high t a b)
+  bounds_keep t l a b = bounds_next frames low high t l ∙ rw (bounds_in t a b)
 
   bounds_leave : (t : ℕ) (l : List ℕ) → in_bounds frames low high (t ∷ []) ≡ [] → in_bounds frames low high (t ∷ l) ≡ in_bounds frames low high l
   bounds_leave t l e = bounds_next frames low high t l ∙ rw e
@@ -195,7 +208,7 @@ module _ (frames : List ℕ) (low high : ℕ) where
       (λ o. rw (bounds_leave t l o) (in_cons _ n t l i (λ e. absurd (never t (rw e at a) (rw e at b) o)) (λ j. bounded_has l n j a b)))
     where
       never : (s : ℕ) → low ≤ get_or frames s 0 → get_or frames s 0 ≤ high → in_bounds frames low high (s ∷ []) ≡ [] → ⊥
-      never s c d o = let z = ap length (sym (bounds_in frames low high s c d) ∙ o) in omega arith
+      never s c d o = let z = ap length (sym (bounds_in s c d) ∙ o) in omega arith
 
   -- still by rising page
   pub bounded_rises : (pages : List ℕ) {l : List ℕ} → Rises pages l → Rises pages (in_bounds frames low high l)

@@ -1,7 +1,8 @@
 -- iter_latest_frames (document 01, "iter_latest_frames"). Assumes nothing.
 use Rattle.std.specs.Prelude.{◌||◌, cond, List, [], ◌∷◌, ◌++◌, map, ℕ, zero, suc, eqb, ltb, length, get_or}
 use Rattle.wal_types.specs.Memory.{Memory}
-use Rattle.wal_types.specs.Refusal.{Test, ◌if◌, short_list}
+use Rattle.wal_types.specs.Refusal.{Test, ◌if◌}
+use Rattle.wal_types.specs.declared.refusal.Refusal.TheVariants.{ShortList}
 use Rattle.wal_types.specs.Call.{Pair, pair, Call, listed, does, unless}
 use Rattle.index_find.specs.Index.{index_tests}
 use Rattle.index_find.specs.Find.{visible}
@@ -33,7 +34,7 @@ pairs_of m = map (λ n. pair (get_or m.pages n 0) (get_or m.frames n 0))
 abbrev pub list_tests : ℕ → ℕ → ℕ → ℕ → ℕ → ℕ → Memory → List Test
 list_tests capacity b low high room_pages room_frames m =
     index_tests capacity b m
-    ++ ((short_list if (ltb room_pages (length (listed_entries low high m)) || ltb room_frames (length (listed_entries low high m)))) ∷ [])
+    ++ ((ShortList if (ltb room_pages (length (listed_entries low high m)) || ltb room_frames (length (listed_entries low high m)))) ∷ [])
 
 unfoldable pub iter_latest_frames : ℕ → ℕ → ℕ → ℕ → ℕ → ℕ → Call
 iter_latest_frames capacity b low high room_pages room_frames =

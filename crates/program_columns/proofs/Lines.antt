@@ -1,14 +1,8 @@
 -- Steps of writing a line of answers. Assumes nothing.
-use mathlib.Core.Path.{◌≡◌, refl, ◌∙◌}
-use mathlib.Core.List.{List, [], ◌∷◌, ◌++◌, append_assoc}
-use Prim.Native.Nat.{ℕ, zero, suc, ◌+◌, ◌-◌, ◌/◌, ◌%◌, ◌<◌, ◌≤◌}
-use native.Mathlib.Omega.{arith}
-use native.Mathlib.Numerals.{add-one}
-use native.Mathlib.Nat.{not-suc-le-zero}
-use lib.ListN.{length, take, drop, set, replicate, length-set, length-take, length-drop, length-append}
-use lib.Seq.{drop-cons, drop-length, drop-set-lt, get_or-set_same, take-suc-set, take_at, length-take-le}
-use borrow.Rule.Slice.PartMut.{put_mid}
-use Rattle.program_columns.proofs.Fields.{drop_end}
+use Rattle.std.proofs.Common.{◌≡◌, ◌∙◌, sym, refl, ap, add-one, ℕ, zero, suc, ◌+◌, ◌-◌, ◌/◌, ◌%◌, ◌<◌, ◌≤◌, List, [], ◌∷◌, ◌++◌, length, take, drop, set, replicate, arith, append_assoc, length-set, drop-cons}
+use borrow.Author.Tests.{ne_eqb}
+use Rattle.std.proofs.Math.Seq.{append_snoc, drop-set-lt, get_or-set_same, take-append_seam}
+use Rattle.std.proofs.lemmas.List.{replicate_more, take-append-drop, take-replicate, take-set, take-take}
 use Rattle.program_columns.specs.Answer.{column_before, columns_before, in_columns}
 
 -- what a store leaves from its place on
@@ -17,62 +11,57 @@ drop_set l j v h =
     let h' : j < length (set l j v) = simp length-set (h) in
     drop-cons (set l j v) j 0 h' ∙ rw (get_or-set_same l j v 0 h, drop-set-lt (suc j) l j v (omega arith))
 
+-- blank columns before others
+pub blanks_before : (width : ℕ) (right : List ℕ) → columns_before width 0 right ≡ replicate width 32 ++ right
+unfolding columns_before
+blanks_before zero right = refl
+blanks_before (suc width) right =
+    let s : replicate width 32 ++ (32 ∷ []) ≡ replicate (suc width) 32 = rw add-one at (replicate_more {X = ℕ} width 32) in
+    blanks_before width (32 ∷ right) ∙ (sym (append_snoc {A = ℕ} (replicate width 32) 32 right) ∙ ap (λ (l : List ℕ). l ++ right) s)
+
 module _ (l : List ℕ) (i n : ℕ) (w : List ℕ) (rest : columns_before i n (drop i l) ≡ w) where
-  pub column_done : 0 < i → i ≤ length l → columns_before (i - 1) (n / 10) (drop (i - 1) (set l (i - 1) (column_before n))) ≡ w
+  pub column_done : (n ≡ 0 → ⊥) → 0 < i → i ≤ length l → columns_before (i - 1) (n / 10) (drop (i - 1) (set l (i - 1) (48 + n % 10))) ≡ w
   unfolding columns_before
-  column_done h t = go i rest h t
+  column_done d h t = go i rest h t
     where
-      go : (k : ℕ) → columns_before k n (drop k l) ≡ w → 0 < k → k ≤ length l → columns_before (k - 1) (n / 10) (drop (k - 1) (set l (k - 1) (column_before n))) ≡ w
+      go : (k : ℕ) → columns_before k n (drop k l) ≡ w → 0 < k → k ≤ length l → columns_before (k - 1) (n / 10) (drop (k - 1) (set l (k - 1) (48 + n % 10))) ≡ w
       go zero e h t = absurd (omega arith)
       go (suc j) e h t =
           let s : suc j - 1 ≡ j = omega arith in
-          rw (s, drop_set l j (column_before n) (omega arith)) (e)
+          rw (s, drop_set l j (48 + n % 10) (omega arith)) (rw (ne_eqb _ 0 d) at e)
 
   pub columns_done : i ≤ 0 → l ≡ w
   unfolding columns_before
   columns_done h = let z : i ≡ 0 = omega arith in rw z at rest
 
--- all columns of a number: the last digit, and those before it
-pub all_columns : (l r : List ℕ) (n : ℕ) → (length l ≡ 0 → ⊥) → r ≡ columns_before (length l - 1) (n / 10) (drop (length l - 1) (set l (length l - 1) (48 + n % 10))) → r ≡ in_columns (length l) n
+  pub no_digit_left : take i l ≡ replicate i 32 → n ≡ 0 → l ≡ w
+  no_digit_left b z = sym (take-append-drop i l) ∙ (rw b (sym (blanks_before i (drop i l))) ∙ rw z at rest)
+
+-- columns that stay blank behind a store, and those before the last of blank columns
+pub blanks_left : (l : List ℕ) (i v : ℕ) → take i l ≡ replicate i 32 → take (i - 1) (set l (i - 1) v) ≡ replicate (i - 1) 32
+blanks_left l i v b =
+    take-set l (i - 1) v ∙ (sym (take-take (i - 1) i l (omega arith)) ∙ (ap (take (i - 1)) b ∙ take-replicate (i - 1) i 32 (omega arith)))
+
+pub blanks_front : (width x : ℕ) (before : List ℕ) → replicate width 32 ≡ before ++ (x ∷ []) → length before + 1 ≡ width → before ≡ replicate (length before) 32
+blanks_front width x before e h =
+    sym (take-append_seam before (x ∷ [])) ∙ (ap (take (length before)) (sym e) ∙ take-replicate (length before) width 32 (omega arith))
+
+-- columns before others are columns alone, and then the others
+pub before_others : (width n : ℕ) (right : List ℕ) → columns_before width n right ≡ columns_before width n [] ++ right
+unfolding columns_before
+before_others zero n right = refl
+before_others (suc width) n right =
+    let tail = before_others width (n / 10) (column_before n ∷ []) in
+    before_others width (n / 10) (column_before n ∷ right) ∙ rw tail (rw append_assoc)
+
+-- all columns of a number: those before the last, and the last digit
+pub all_columns : (before : List ℕ) (digit k width n : ℕ) → before ≡ columns_before k (n / 10) [] → digit ≡ 48 + n % 10 → k + 1 ≡ width → before ++ (digit ∷ []) ≡ in_columns width n
 unfolding in_columns
-all_columns l r n h e = go (length l) refl h e
-  where
-    go : (k : ℕ) → k ≡ length l → (k ≡ 0 → ⊥) → r ≡ columns_before (k - 1) (n / 10) (drop (k - 1) (set l (k - 1) (48 + n % 10))) → r ≡ in_columns k n
-    go zero f h e = absurd (h refl)
-    go (suc j) f h e =
-        let s : suc j - 1 ≡ j = omega arith in
-        let d : drop (suc j) l ≡ [] = rw f (drop-length l) in
-        e ∙ rw (s, drop_set l j (48 + n % 10) (omega arith), d)
+all_columns before digit k width n e d w =
+    let s : width ≡ suc k = omega arith in
+    rw (s, e, d, before_others k (n / 10) ((48 + n % 10) ∷ [])) refl
 
-pub no_columns : (l : List ℕ) (n : ℕ) → length l ≡ 0 → l ≡ in_columns (length l) n
+pub no_columns : (l : List ℕ) (width n : ℕ) → length l ≡ 0 → width ≡ 0 → l ≡ in_columns width n
 unfolding in_columns
-no_columns [] n e = refl
-no_columns (b ∷ l) n e = absurd (not-suc-le-zero {n = 0} (omega arith))
-
--- A part p that was filled stands behind what stands before it.
-module _ (l p : List ℕ) (at width : ℕ) (fits : at + width ≤ length l) (kept : length p ≡ length (take (at + width - at) (drop at l))) where
-  width_of : length (take (at + width - at) (drop at l)) ≡ width
-  width_of = simp (length-take, length-drop) (omega arith)
-
-  put_behind : take (at + width) (put_mid at (at + width - at) l p) ≡ take at l ++ p
-  put_behind =
-      let s : length p ≡ width = kept ∙ width_of in
-      let t : length (take at l) ≡ at = length-take-le at l (omega arith) in
-      rw (← append_assoc) (take_at (take at l ++ p) (drop (at + width - at) (drop at l)) (at + width) (simp (length-append, s, t)))
-
-  pub columns_behind : (n : ℕ) → p ≡ in_columns (length (take (at + width - at) (drop at l))) n → take (at + width) (put_mid at (at + width - at) l p) ≡ take at l ++ in_columns width n
-  columns_behind n e = put_behind ∙ rw (e, width_of)
-
-  pub blanks_behind : width ≡ 12 → p ≡ columns_before 12 0 (drop 12 (take (at + width - at) (drop at l))) → take (at + width) (put_mid at (at + width - at) l p) ≡ take at l ++ replicate 12 32
-  unfolding columns_before
-  blanks_behind w e =
-      let d : drop 12 (take (at + width - at) (drop at l)) ≡ [] = drop_end (take (at + width - at) (drop at l)) 12 (width_of ∙ w) in
-      put_behind ∙ rw (e, d)
-
--- a byte behind what stands before it
-pub byte_behind : (l : List ℕ) (at b : ℕ) → at < length l → take (at + 1) (set l at b) ≡ take at l ++ (b ∷ [])
-byte_behind l at b h = rw add-one (take-suc-set l at b h)
-
--- four parts, one behind the other
-pub joined : (t : List ℕ) (x : ℕ) (a b : List ℕ) (y : ℕ) → (((t ++ (x ∷ [])) ++ a) ++ b) ++ (y ∷ []) ≡ t ++ (((x ∷ a) ++ b) ++ (y ∷ []))
-joined t x a b y = simp append_assoc
+no_columns [] width n e z = rw z refl
+no_columns (b ∷ l) width n e z = absurd (omega arith)

@@ -1,7 +1,5 @@
 -- The lines of answers, as lists of bytes. Assumes nothing.
-use Rattle.std.specs.Prelude.{cond, List, [], ◌∷◌, ◌++◌, ℕ, zero, suc, ◌+◌, ◌/◌, ◌%◌, eqb, replicate}
-use Rattle.program_columns.specs.declared.answer.Answer.{Answer}
-use Rattle.program_columns.specs.declared.answer.Answer.TheVariants.{Value, Blank}
+use Rattle.std.specs.Prelude.{cond, List, [], ◌∷◌, ◌++◌, ℕ, zero, suc, ◌+◌, ◌/◌, ◌%◌, eqb, replicate, Option, Some, None}
 
 -- a column before others: a digit of what is left of the number, or a blank where nothing is left
 abbrev pub column_before : ℕ → ℕ
@@ -17,13 +15,13 @@ unfoldable pub in_columns : ℕ → ℕ → List ℕ
 in_columns zero n = []
 in_columns (suc width) n = columns_before width (n / 10) ((48 + n % 10) ∷ [])
 
--- an answer in 12 columns
-unfoldable pub answer_columns : Answer → List ℕ
-answer_columns (Value n) = in_columns 12 n
-answer_columns Blank = replicate 12 32
+-- an answer in 12 columns: blank where nothing was found, or the call was refused
+unfoldable pub answer_columns : Option ℕ → List ℕ
+answer_columns (Some n) = in_columns 12 n
+answer_columns None = replicate 12 32
 
 -- the letter, the refusal's number and the answer
-unfoldable pub answer_line : ℕ → ℕ → Answer → List ℕ
+unfoldable pub answer_line : ℕ → ℕ → Option ℕ → List ℕ
 answer_line letter refusal answer = ((letter ∷ in_columns 3 refusal) ++ answer_columns answer) ++ (10 ∷ [])
 
 -- a pair of a list: 45 is the dash

@@ -1,77 +1,56 @@
 // A field: 12 columns with a number in decimal, right-justified, without leading zeros.
-ghost use Rattle.std.specs.Prelude.{◌≡◌, ◌+◌, ◌≤◌, length, drop};
-ghost use Rattle.program_columns.specs.Field.{digits_after, plain_number, after_blanks, field_of};
+ghost use Rattle.std.specs.Prelude.{◌≡◌, ◌-◌, ◌≤◌, length, cond, IfSome, position, not, ◌==◌};
+ghost use Rattle.program_columns.specs.Field.{is_digit, digits_after, plain_number, field_of};
 
-#[derive(Clone, Copy)]
-pub enum Field {
-    Number(u64),
-    NoNumber,
+fn digit(b: u8) -> Option<u64>
+    ensures value { result ≡ cond (is_digit b) (Some (b - 48)) None }
+    ensures bound { IfSome result (λ d. d ≤ 9) }
+{
+    match b {
+        b'0'..=b'9' => Some(u64::from(b - b'0')),
+        _ => None,
+    }
 }
 
-fn wide(b: u8) -> u64
-    ensures { result ≡ b }
+// A number of these digits.
+#[tactic(auto, using(crate::proofs::Fields::no_digit, crate::proofs::Fields::digits_done))]
+fn number(digits: &[u8]) -> Option<u64>
+    requires { length digits.now ≤ 12 }
+    ensures { result ≡ digits_after 0 digits.now }
 {
-    b as u64
+    let mut n = 0;
+    for b in digits {
+        n = 10 * n + digit(*b)?;
+    }
+    Some(n)
 }
 
-// Digits from this column to the last.
-fn digits_from(field: &[u8], first: usize) -> Field
-    requires { (first ≤ length field.now) × (length field.now ≤ first + 12) }
-    ensures { result ≡ digits_after 0 (drop first field.now) }
+#[tactic(auto, using(crate::proofs::Fields::none_there, crate::proofs::Fields::leading_zero, crate::proofs::Fields::zero_alone, crate::proofs::Fields::not_zero))]
+fn plain_number(digits: &[u8]) -> Option<u64>
+    requires { length digits.now ≤ 12 }
+    ensures { result ≡ plain_number digits.now }
 {
-    let mut n: u64 = 0;
-    let mut i = first;
-    while i < field.len() {
-        let b = field[i];
-        i += 1;
-        if b < b'0' {
-            return Field::NoNumber;
-        }
-        if b > b'9' {
-            return Field::NoNumber;
-        }
-        n = 10 * n + wide(b - b'0');
+    let (first, others) = digits.split_first()?;
+    if *first == b'0' && !others.is_empty() {
+        return None;
     }
-    Field::Number(n)
-}
-
-// A number without leading zeros from this column to the last.
-fn number_from(field: &[u8], first: usize) -> Field
-    requires { (first ≤ length field.now) × (length field.now ≤ first + 12) }
-    ensures { result ≡ plain_number (drop first field.now) }
-{
-    if first == field.len() {
-        return Field::NoNumber;
-    }
-    if field[first] != b'0' {
-        return digits_from(field, first);
-    }
-    if first + 1 == field.len() {
-        return Field::Number(0);
-    }
-    Field::NoNumber
+    number(digits)
 }
 
 // The first column that is not blank.
-fn first_digit(field: &[u8]) -> usize
-    ensures { (result ≤ length field.now) × (plain_number (drop result field.now) ≡ after_blanks field.now) }
+fn first_digit(field: &[u8]) -> Option<usize>
+    ensures { result ≡ position (λ b. not (b == 32)) field.now }
 {
-    let mut i = 0;
-    while i < field.len() {
-        if field[i] != b' ' {
-            return i;
-        }
-        i += 1;
-    }
-    i
+    field.iter().position(|b| *b != b' ')
 }
 
-pub fn read_field(field: &[u8]) -> Field
+#[tactic(auto, using(crate::proofs::Fields::only_blanks, crate::proofs::Fields::behind_first), unfolding(crate::specs::Field::field_of))]
+pub fn read_field(field: &[u8]) -> Option<u64>
     ensures { result ≡ field_of field.now }
 {
     if field.len() != 12 {
-        return Field::NoNumber;
+        return None;
     }
-    let first = first_digit(field);
-    number_from(field, first)
+    let first = first_digit(field)?;
+    plain_number(&field[first..])
 }

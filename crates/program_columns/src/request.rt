@@ -1,8 +1,8 @@
 // What a line asks.
-ghost use Rattle.std.specs.Prelude.{◌≡◌, ◌+◌, ◌≤◌, length};
-ghost use Rattle.program_columns.specs.Request.{has_form, field_at, record_of, rollback_of, find_of, list_of, request_of};
+ghost use Rattle.std.specs.Prelude.{◌≡◌, ◌+◌, ◌≤◌, IsTrue, length};
+ghost use Rattle.program_columns.specs.Request.{has_form, field_at, request_of};
 
-use crate::field::{Field, read_field};
+use crate::field::read_field;
 
 #[derive(Clone, Copy)]
 pub enum Request {
@@ -14,20 +14,17 @@ pub enum Request {
     Find(u64, u64, u64),
     // L min max
     List(u64, u64),
-    OtherForm,
 }
 
 fn has_form(line: &[u8], letter: u8, fields: usize) -> bool
     requires { fields ≤ 3 }
     ensures { result ≡ has_form line.now letter fields }
 {
-    if line.len() != 12 * fields + 1 {
-        return false;
-    }
-    line[0] == letter
+    line.len() == 12 * fields + 1 && line[0] == letter
 }
 
-fn field_at(line: &[u8], column: usize) -> Field
+#[tactic(auto, unfolding(crate::specs::Request::field_at))]
+fn field_at(line: &[u8], column: usize) -> Option<u64>
     requires { column + 12 ≤ length line.now }
     ensures { result ≡ field_at line.now column }
 {
@@ -35,73 +32,24 @@ fn field_at(line: &[u8], column: usize) -> Field
     read_field(&line[column..end])
 }
 
-fn record_request(line: &[u8]) -> Request
-    requires { length line.now ≡ 25 }
-    ensures { result ≡ record_of (field_at line.now 1) (field_at line.now 13) }
-{
-    let Field::Number(page) = field_at(line, 1) else {
-        return Request::OtherForm;
-    };
-    let Field::Number(frame) = field_at(line, 13) else {
-        return Request::OtherForm;
-    };
-    Request::Record(page, frame)
-}
-
-fn rollback_request(line: &[u8]) -> Request
-    requires { length line.now ≡ 13 }
-    ensures { result ≡ rollback_of (field_at line.now 1) }
-{
-    let Field::Number(frame) = field_at(line, 1) else {
-        return Request::OtherForm;
-    };
-    Request::Rollback(frame)
-}
-
-fn find_request(line: &[u8]) -> Request
-    requires { length line.now ≡ 37 }
-    ensures { result ≡ find_of (field_at line.now 1) (field_at line.now 13) (field_at line.now 25) }
-{
-    let Field::Number(page) = field_at(line, 1) else {
-        return Request::OtherForm;
-    };
-    let Field::Number(min_frame) = field_at(line, 13) else {
-        return Request::OtherForm;
-    };
-    let Field::Number(max_frame) = field_at(line, 25) else {
-        return Request::OtherForm;
-    };
-    Request::Find(page, min_frame, max_frame)
-}
-
-fn list_request(line: &[u8]) -> Request
-    requires { length line.now ≡ 25 }
-    ensures { result ≡ list_of (field_at line.now 1) (field_at line.now 13) }
-{
-    let Field::Number(min_frame) = field_at(line, 1) else {
-        return Request::OtherForm;
-    };
-    let Field::Number(max_frame) = field_at(line, 13) else {
-        return Request::OtherForm;
-    };
-    Request::List(min_frame, max_frame)
-}
-
-// Reads a line, which is given without its newline.
-pub fn read_request(line: &[u8]) -> Request
+// Reads a line, which is given without its newline. None: it is of another form. (Field by field: over `as_chunks` and one match
+// the proof did not close.)
+#[tactic(auto, using(crate::proofs::Forms::record_asked, crate::proofs::Forms::rollback_asked, crate::proofs::Forms::find_asked, crate::proofs::Forms::list_asked, crate::proofs::Forms::nothing_asked))]
+pub fn read_request(line: &[u8]) -> Option<Request>
     ensures { result ≡ request_of line.now }
 {
     if has_form(line, b'R', 2) {
-        return record_request(line);
+        return Some(Request::Record(field_at(line, 1)?, field_at(line, 13)?));
     }
     if has_form(line, b'B', 1) {
-        return rollback_request(line);
+        return Some(Request::Rollback(field_at(line, 1)?));
     }
     if has_form(line, b'F', 3) {
-        return find_request(line);
+        let page = field_at(line, 1)?;
+        return Some(Request::Find(page, field_at(line, 13)?, field_at(line, 25)?));
     }
     if has_form(line, b'L', 2) {
-        return list_request(line);
+        return Some(Request::List(field_at(line, 1)?, field_at(line, 13)?));
     }
-    Request::OtherForm
+    None
 }

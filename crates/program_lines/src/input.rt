@@ -1,96 +1,95 @@
-// Standard input, taken line by line. Bytes are read into one buffer, and a line's bytes are put into another, without
-// its newline: a last line that has none is a line as others are, and nothing behind the last newline is no line.
-// A line that is longer than its buffer fills it, and what does not fit is left out.
-use crate::line::byte_at;
+// Standard input, taken line by line. A line stands in a buffer without its newline: a last line that has none is a line
+// as others are, and nothing behind the last newline is no line. A line that is longer than the limit is cut to it, and
+// what is left of it is passed over.
+use std::alloc::Global;
 use std::io;
-use std::io::Read;
+use std::io::{BufRead, BufReader, BufWriter, Read, Write};
 
-#[derive(Clone, Copy)]
-pub struct Input {
-    // The bytes that were read and not yet taken, from and to before.
-    pub at: usize,
-    pub len: usize,
-    // Bytes of the line that is being taken, and whether it is whole.
-    pub line_len: usize,
-    pub is_line_whole: bool,
-    pub is_ended: bool,
+// So many bytes are read at once, and so many bytes of answers wait at most.
+const BUFFER_LEN: usize = 65536;
+
+// A source that is not read again once it ended.
+#[derive(Drop)]
+struct ToItsEnd<R> {
+    source: R,
+    is_ended: bool,
 }
 
-// Before the first byte.
-pub fn start() -> Input {
-    Input {
-        at: 0,
-        len: 0,
-        line_len: 0,
-        is_line_whole: false,
-        is_ended: false,
-    }
-}
-
-// Whether all that was read is taken.
-pub fn is_taken(input: Input) -> bool {
-    input.len <= input.at
-}
-
-// Bytes were taken up to `at`, and the line has `line_len` bytes.
-fn with_line(input: Input, at: usize, line_len: usize, is_line_whole: bool) -> Input {
-    let mut next = input;
-    next.at = at;
-    next.line_len = line_len;
-    next.is_line_whole = is_line_whole;
-    next
-}
-
-// A byte more of the line, if it fits.
-fn put(line: &mut [u8], len: usize, b: u8) -> usize {
-    if len < line.len() {
-        line[len] = b;
-        len + 1
-    } else {
-        len
-    }
-}
-
-// Takes bytes into the line, to its newline or to the end of what was read.
-pub fn take_part(input: Input, bytes: &[u8], line: &mut [u8]) -> Input {
-    let to = input.len;
-    let mut at = input.at;
-    let mut len = input.line_len;
-    while at < to {
-        let b = byte_at(bytes, at);
-        at += 1;
-        if b == b'\n' {
-            return with_line(input, at, len, true);
+impl<R: Read> Read for ToItsEnd<R> {
+    fn read(&mut self, bytes: &mut [u8]) -> io::Result<usize> {
+        if self.is_ended {
+            return Ok(0);
         }
-        len = put(line, len, b);
+        let len = self.source.read(bytes)?;
+        self.is_ended = len == 0;
+        Ok(len)
     }
-    with_line(input, at, len, false)
 }
 
-// The input ended. Bytes behind the last newline are a whole line too.
-fn at_end(input: Input) -> Input {
-    let mut next = input;
-    next.is_line_whole = input.line_len > 0;
-    next.is_ended = true;
-    next
+#[derive(Drop)]
+struct Lines<R: Read + Drop> {
+    source: BufReader<ToItsEnd<R>>,
+    limit: u64,
+    line: Vec<u8>,
 }
 
-// Reads once, after all that was read is taken.
-pub fn refill<R: Read>(source: &mut R, input: Input, bytes: &mut [u8]) -> io::Result<Input> {
-    let got = source.read(bytes)?;
-    if got == 0 {
-        return Ok(at_end(input));
+impl<R: Read + Drop> Lines<R> {
+    fn new(alloc: Global, source: R, limit: u64) -> io::Result<Lines<R>> {
+        let unread = ToItsEnd {
+            source,
+            is_ended: false,
+        };
+        let source = BufReader::with_capacity(alloc, BUFFER_LEN, unread)?;
+        let line = Vec::new(alloc);
+        Ok(Lines {
+            source,
+            limit,
+            line,
+        })
     }
-    let mut next = input;
-    next.at = 0;
-    next.len = got;
-    Ok(next)
+
+    // The next line, or none at the end. What waits in `out` is written before more is read, so that a line typed is
+    // answered at once.
+    fn next_line<W: Write>(&mut self, out: &mut W) -> io::Result<Option<&[u8]>> {
+        if !self.source.buffer().contains(&b'\n') {
+            out.flush()?;
+        }
+        self.line.clear();
+        let mut start = self.source.by_ref().take(self.limit);
+        if start.read_until(b'\n', &mut self.line)? == 0 {
+            return Ok(None);
+        }
+        if self.line.ends_with(b"\n") {
+            self.line.pop();
+        } else {
+            self.source.skip_until(b'\n')?;
+        }
+        Ok(Some(self.line.as_slice()))
+    }
 }
 
-// The line was taken.
-pub fn without_line(input: Input) -> Input {
-    let mut next = input;
-    next.line_len = 0;
-    next.is_line_whole = false;
-    next
+// Answers each line of a source, which is given with what takes its answer. A proved loop has to end, and nothing says that
+// the input does: it counts its turns, to a number that no run uses up.
+pub fn answer_lines<R, W, F>(
+    alloc: Global,
+    source: R,
+    sink: W,
+    limit: u64,
+    mut answer: F,
+) -> io::Result<()>
+where
+    R: Read + Drop,
+    W: Write + Drop,
+    F: FnMut(&[u8], &mut BufWriter<W>) -> io::Result<()>,
+    requires { F.IsAlwaysCallable answer }
+{
+    let mut lines = Lines::new(alloc, source, limit)?;
+    let mut out = BufWriter::with_capacity(alloc, BUFFER_LEN, sink)?;
+    for _ in 0..u64::MAX {
+        let Some(line) = lines.next_line(&mut out)? else {
+            break;
+        };
+        answer(line, &mut out)?;
+    }
+    out.flush()
 }

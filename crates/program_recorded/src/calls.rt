@@ -19,34 +19,42 @@
 // An answer's row on the header: the refusal or 0, the answer (a counter, or 1 for a lock that was taken, else 0), the
 // header, and the own cell for a lock. On slots: the refusal or 0, whether there is an answer, which slot, mark or limit
 // it is, the bitmap's word, frames, owners and local owners.
-use crate::row::Row;
-use crate::{header_calls, reader_calls, row};
+use crate::header_calls::HeaderAnswer;
+use crate::reader_calls::ReaderAnswer;
+use crate::{header_calls, reader_calls};
+use std::fmt;
+use wal_types::refusal::Refusal;
 
-// How many numbers the row of a call has, 0 where there is no such call.
-fn numbers_of(call: u64) -> usize {
-    match call {
-        1 => 18,
-        2 => 15,
-        3 | 4 => 14,
-        5 | 6 | 7 | 8 => 17,
-        9 | 12 => 15,
-        10 | 11 => 13,
-        _ => 0,
+#[derive(Drop)]
+pub enum Answer {
+    OnHeader(HeaderAnswer),
+    OnSlots(ReaderAnswer),
+}
+
+impl fmt::Display for Answer {
+    fn fmt<W: fmt::Write>(&self, f: &mut fmt::Formatter<W>) -> fmt::Result {
+        match self {
+            Answer::OnHeader(answer) => write!(f, "{answer}"),
+            Answer::OnSlots(answer) => write!(f, "{answer}"),
+        }
     }
 }
 
-// Makes the call of a row. The answer to another form is a row of none.
-pub fn perform(row: Row) -> Row {
-    if row.count == 0 {
-        return row::other_form();
+// The number of a call's refusal, or 0.
+pub fn refusal_number<T>(told: &Result<T, Refusal>) -> u32 {
+    match told {
+        Ok(_) => 0,
+        Err(refusal) => u32::from(*refusal),
     }
-    let numbers = row.numbers;
-    let call = numbers[0];
-    if row.count != numbers_of(call) {
-        return row::other_form();
+}
+
+// Makes the call of a row. None: the row is of another form than all calls. (A call stays a number: it is the recorded rows' own,
+// and is matched once, with what stands behind it.)
+pub fn perform(row: &[u64]) -> Option<Answer> {
+    let (call, given) = row.split_first()?;
+    if *call <= 8 {
+        Some(Answer::OnHeader(header_calls::perform(*call, given)?))
+    } else {
+        Some(Answer::OnSlots(reader_calls::perform(*call, given)?))
     }
-    if call <= 8 {
-        return header_calls::perform(call, numbers);
-    }
-    reader_calls::perform(call, numbers)
 }

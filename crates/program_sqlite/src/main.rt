@@ -5,56 +5,32 @@
 
 mod block;
 
-ghost use Rattle.std.specs.Prelude.{◌≤◌, length, IfOk};
-
-use program_lines::line::line_end;
+use block::Block;
+use std::alloc::Global;
 use std::io;
-use std::io::Read;
+use std::io::{BufReader, Read};
 
-// Reads until the text is full or the input ends, and answers how many bytes it has.
-fn read_text<R: Read>(source: &mut R, text: &mut [u8]) -> io::Result<usize>
-    ensures { IfOk result (λ len. len ≤ length text.new) }
-{
-    let mut len = 0;
-    while len < text.len() {
-        let got = source.read(&mut text[len..])?;
-        if got == 0 {
-            return Ok(len);
-        }
-        len += got;
+// So many bytes are read. A line that ends no sooner may be cut, and is left out.
+const TEXT_LEN: usize = 65536;
+
+fn read_block<R: Read + Drop>(alloc: Global, source: R) -> io::Result<Block> {
+    let reader = BufReader::with_capacity(alloc, TEXT_LEN, source)?;
+    let mut text = Vec::new(alloc);
+    reader.take(TEXT_LEN as u64).read_to_end(&mut text)?;
+    let mut lines = text.split(|b| *b == b'\n');
+    if text.len() == TEXT_LEN {
+        lines.next_back();
     }
-    Ok(len)
-}
-
-// Takes in the lines of the text, and answers how many pages there are.
-fn read_block(text: &[u8], len: usize, pages: &mut [u64], cells: &mut [u16]) -> usize {
-    let mut entries = 0;
-    let mut at = 0;
-    while at < len {
-        let end = line_end(text, at, len);
-        if end < at {
-            return entries;
-        }
-        if text.len() <= end {
-            return entries;
-        }
-        entries = block::take_line(&text[at..end], entries, pages, cells);
-        at = end + 1;
+    let mut block = Block::new(alloc);
+    for line in lines {
+        block.take_line(line)?;
     }
-    entries
-}
-
-fn write_counts(rt: &impl Print, entries: usize, differences: usize) -> io::Result<()> {
-    println!(rt; "{entries} entries, {differences} differences")
+    Ok(block)
 }
 
 fn main(rt: HostRuntime) -> io::Result<()> {
-    let mut text = [0u8; 65536];
-    let mut pages = [0u64; 4096];
-    let mut cells = [0u16; 8192];
-    let mut hash = [0u16; 8192];
-    let len = read_text(&mut rt.stdin(), &mut text)?;
-    let entries = read_block(&text, len, &mut pages, &mut cells);
-    let differences = block::differences(&pages, entries, &cells, &mut hash);
-    write_counts(&rt, entries, differences)
+    let block = read_block(rt.alloc(), rt.stdin())?;
+    let entries = block.entries();
+    let differences = block.differences();
+    println!(rt; "{entries} entries, {differences} differences")
 }

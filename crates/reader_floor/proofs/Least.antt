@@ -14,48 +14,46 @@ use Rattle.wal_types.specs.declared.SharedWalOwnershipMode.{SharedWalOwnershipMo
 use Rattle.wal_types.specs.Memory.{Memory, Process}
 use Rattle.wal_types.specs.Refusal.{lowest, Test}
 use Rattle.wal_types.specs.Call.{Answer, refused, none, frame_found, Call, Done, after, done, does, flag}
-use Rattle.reader_probe.specs.declared.live.Floor.{Floor}
-use Rattle.reader_probe.specs.declared.live.Floor.TheVariants.{Mark, NoMark}
+use Rattle.std.specs.Prelude.{Option, Some, None, is_some}
 use Rattle.reader_slots.specs.Slots.{held}
 use Rattle.reader_probe.specs.Live.{skipped, live, lower_floor, looked_at}
 use Rattle.reader_floor.specs.Floor.{floor_from, floor_of, floor_answer, probe_tests, reclaim_dead, min_active_reader_frame, has_active_db_file_reader, db_file_reader_of}
-use Rattle.reader_slots.specs.Search.{found_slot}
-use Rattle.reader_slots.proofs.Calls.{refuses, accepts}
+use Rattle.wal_types.proofs.Refusals.{call_refused, call_accepted}
 use Rattle.reader_slots.proofs.Kept.{SlotSame, slot_same}
 use Rattle.reader_floor.proofs.Kept.{dead_keeps}
 
 -- the floor is there, and at most the mark
-unfoldable pub AtMost : ℕ → Floor → Type 0
-AtMost mark (Mark f) = f ≤ mark
-AtMost mark NoMark = ⊥
+unfoldable pub AtMost : ℕ → Option ℕ → Type 0
+AtMost mark (Some f) = f ≤ mark
+AtMost mark None = ⊥
 
 -- lowering keeps it so, and a mark above 0 makes it so
-lower_keeps : (mark frame : ℕ) (fl : Floor) → AtMost mark fl → AtMost mark (lower_floor fl frame)
+lower_keeps : (mark frame : ℕ) (fl : Option ℕ) → AtMost mark fl → AtMost mark (lower_floor fl frame)
 unfolding AtMost
-lower_keeps mark frame (Mark f) h = go (ℕ_discrete frame 0)
+lower_keeps mark frame (Some f) h = go (ℕ_discrete frame 0)
   where
-    go : Dec (frame ≡ 0) → AtMost mark (cond (eqb frame 0) (Mark f) (Mark (min f frame)))
+    go : Dec (frame ≡ 0) → AtMost mark (cond (eqb frame 0) (Some f) (Some (min f frame)))
     go (yes e) = rw (eq-eqb frame 0 e) h
     go (no g) = rw (ne_eqb frame 0 g) (omega arith)
-lower_keeps mark frame NoMark h = absurd h
+lower_keeps mark frame None h = absurd h
 
-lower_makes : (mark : ℕ) (fl : Floor) → (mark ≡ 0 → ⊥) → AtMost mark (lower_floor fl mark)
+lower_makes : (mark : ℕ) (fl : Option ℕ) → (mark ≡ 0 → ⊥) → AtMost mark (lower_floor fl mark)
 unfolding AtMost
-lower_makes mark (Mark f) g = rw (ne_eqb mark 0 g) (omega arith)
-lower_makes mark NoMark g = rw (ne_eqb mark 0 g) (omega arith)
+lower_makes mark (Some f) g = rw (ne_eqb mark 0 g) (omega arith)
+lower_makes mark None g = rw (ne_eqb mark 0 g) (omega arith)
 
 module _ (mode : SharedWalOwnershipMode) (bytes : List ℕ) (p : Process) (m : Memory) where
-  cond_keeps : (t : Bool) (mark frame : ℕ) (fl : Floor) → AtMost mark fl → AtMost mark (cond t (lower_floor fl frame) fl)
+  cond_keeps : (t : Bool) (mark frame : ℕ) (fl : Option ℕ) → AtMost mark fl → AtMost mark (cond t (lower_floor fl frame) fl)
   cond_keeps true mark frame fl h = lower_keeps mark frame fl h
   cond_keeps false mark frame fl h = h
 
-  from_keeps : (left i mark : ℕ) (fl : Floor) → AtMost mark fl → AtMost mark (floor_from mode bytes p m left i fl)
+  from_keeps : (left i mark : ℕ) (fl : Option ℕ) → AtMost mark fl → AtMost mark (floor_from mode bytes p m left i fl)
   unfolding floor_from
   from_keeps zero i mark fl h = h
   from_keeps (suc left) i mark fl h =
       from_keeps left (i + 1) mark (cond (live mode bytes p m i) (lower_floor fl (get_or m.reader_frames i 0)) fl) (cond_keeps (live mode bytes p m i) mark (get_or m.reader_frames i 0) fl h)
 
-  from_least : (left i j mark : ℕ) (fl : Floor) → i ≤ j → j < i + left → live mode bytes p m j ≡ true → get_or m.reader_frames j 0 ≡ mark → (mark ≡ 0 → ⊥) → AtMost mark (floor_from mode bytes p m left i fl)
+  from_least : (left i j mark : ℕ) (fl : Option ℕ) → i ≤ j → j < i + left → live mode bytes p m j ≡ true → get_or m.reader_frames j 0 ≡ mark → (mark ≡ 0 → ⊥) → AtMost mark (floor_from mode bytes p m left i fl)
   unfolding floor_from
   from_least zero i j mark fl a b t e g = absurd (omega arith)
   from_least (suc left) i j mark fl a b t e g =
@@ -66,7 +64,7 @@ module _ (mode : SharedWalOwnershipMode) (bytes : List ℕ) (p : Process) (m : M
 
   -- a live slot with a mark above 0: the floor exists, and is at most that mark
   pub floor_at_most : (n i mark : ℕ) → i < n → live mode bytes p m i ≡ true → get_or m.reader_frames i 0 ≡ mark → (mark ≡ 0 → ⊥) → AtMost mark (floor_of n mode bytes m p)
-  floor_at_most n i mark b t e g = from_least n 0 i mark NoMark (omega arith) (omega arith) t e g
+  floor_at_most n i mark b t e g = from_least n 0 i mark None (omega arith) (omega arith) t e g
 
   -- a floor that the pass has found is a live slot's mark above 0
   pub record LiveMark (n f : ℕ) : Type 0 where
@@ -76,32 +74,32 @@ module _ (mode : SharedWalOwnershipMode) (bytes : List ℕ) (p : Process) (m : M
     pub mark_is : get_or m.reader_frames slot 0 ≡ f
     pub above : f ≡ 0 → ⊥
 
-  abbrev SoFar : ℕ → Floor → Type 0
-  SoFar n fl = (f : ℕ) → fl ≡ Mark f → LiveMark n f
+  abbrev SoFar : ℕ → Option ℕ → Type 0
+  SoFar n fl = (f : ℕ) → fl ≡ Some f → LiveMark n f
 
-  lower_live : (n i : ℕ) (fl : Floor) → i < n → live mode bytes p m i ≡ true → SoFar n fl → SoFar n (lower_floor fl (get_or m.reader_frames i 0))
+  lower_live : (n i : ℕ) (fl : Option ℕ) → i < n → live mode bytes p m i ≡ true → SoFar n fl → SoFar n (lower_floor fl (get_or m.reader_frames i 0))
   lower_live n i fl b t h = go fl h (ℕ_discrete (get_or m.reader_frames i 0) 0)
     where
       here : (f : ℕ) → get_or m.reader_frames i 0 ≡ f → (get_or m.reader_frames i 0 ≡ 0 → ⊥) → LiveMark n f
       here f e g = record { slot = i; below = b; alive = t; mark_is = e; above = λ z. g (e ∙ z) }
 
-      go : (fl : Floor) → SoFar n fl → Dec (get_or m.reader_frames i 0 ≡ 0) → SoFar n (lower_floor fl (get_or m.reader_frames i 0))
-      go (Mark x) h (yes e) f q = h f (rw (eq-eqb (get_or m.reader_frames i 0) 0 e) at q)
-      go (Mark x) h (no g) f q =
-          let r : Mark (min x (get_or m.reader_frames i 0)) ≡ Mark f = rw (ne_eqb (get_or m.reader_frames i 0) 0 g) at q in
+      go : (fl : Option ℕ) → SoFar n fl → Dec (get_or m.reader_frames i 0 ≡ 0) → SoFar n (lower_floor fl (get_or m.reader_frames i 0))
+      go (Some x) h (yes e) f q = h f (rw (eq-eqb (get_or m.reader_frames i 0) 0 e) at q)
+      go (Some x) h (no g) f q =
+          let r : Some (min x (get_or m.reader_frames i 0)) ≡ Some f = rw (ne_eqb (get_or m.reader_frames i 0) 0 g) at q in
           let s : min x (get_or m.reader_frames i 0) ≡ f = cc in
           less (dec_le x (get_or m.reader_frames i 0)) s
         where
           less : Dec (x ≤ get_or m.reader_frames i 0) → min x (get_or m.reader_frames i 0) ≡ f → LiveMark n f
-          less (yes l) s = h f (ap Mark (omega arith))
+          less (yes l) s = h f (ap Some (omega arith))
           less (no k) s = here f (omega arith) g
-      go NoMark h (yes e) f q = h f (rw (eq-eqb (get_or m.reader_frames i 0) 0 e) at q)
-      go NoMark h (no g) f q =
-          let r : Mark (get_or m.reader_frames i 0) ≡ Mark f = rw (ne_eqb (get_or m.reader_frames i 0) 0 g) at q in
+      go None h (yes e) f q = h f (rw (eq-eqb (get_or m.reader_frames i 0) 0 e) at q)
+      go None h (no g) f q =
+          let r : Some (get_or m.reader_frames i 0) ≡ Some f = rw (ne_eqb (get_or m.reader_frames i 0) 0 g) at q in
           let s : get_or m.reader_frames i 0 ≡ f = cc in
           here f s g
 
-  from_live : (n left i : ℕ) (fl : Floor) → i + left ≤ n → SoFar n fl → SoFar n (floor_from mode bytes p m left i fl)
+  from_live : (n left i : ℕ) (fl : Option ℕ) → i + left ≤ n → SoFar n fl → SoFar n (floor_from mode bytes p m left i fl)
   unfolding floor_from
   from_live n zero i fl b h = h
   from_live n (suc left) i fl b h =
@@ -111,11 +109,11 @@ module _ (mode : SharedWalOwnershipMode) (bytes : List ℕ) (p : Process) (m : M
       turn true e = lower_live n i fl (omega arith) e h
       turn false e = h
 
-  none_yet : (n f : ℕ) → NoMark ≡ Mark f → LiveMark n f
-  none_yet n f e = let z : ◌≡◌ {A = ℕ} 0 1 = cc in absurd (omega arith)
+  none_yet : (n f : ℕ) → None ≡ Some f → LiveMark n f
+  none_yet n f e = cc
 
-  pub floor_is_live : (n f : ℕ) → floor_of n mode bytes m p ≡ Mark f → LiveMark n f
-  floor_is_live n f e = from_live n n 0 NoMark (omega arith) (none_yet n) f e
+  pub floor_is_live : (n f : ℕ) → floor_of n mode bytes m p ≡ Some f → LiveMark n f
+  floor_is_live n f e = from_live n n 0 None (omega arith) (none_yet n) f e
 
 -- a slot held here that is not skipped is live
 held_true : (s g : Bool) → s ≡ false → (not s && (true || g)) ≡ true
@@ -138,26 +136,26 @@ module _ (n : ℕ) (mode : SharedWalOwnershipMode) (bytes : List ℕ) (m : Memor
 
   pub floor_refused : (number_given ≡ 0 → ⊥) → result ≡ done (refused number_given) m p
   unfolding min_active_reader_frame
-  floor_refused x = refuses (probe_tests n mode bytes n) floor_call m p number_given refl x
+  floor_refused x = call_refused (probe_tests n mode bytes n) floor_call m p number_given refl x
 
   pub floor_accepted : number_given ≡ 0 → result ≡ after floor_call m p
   unfolding min_active_reader_frame
-  floor_accepted x = accepts (probe_tests n mode bytes n) floor_call m p x
+  floor_accepted x = call_accepted (probe_tests n mode bytes n) floor_call m p x
 
   abbrev Bounded : ℕ → Answer → Type 0
   Bounded mark a = (a ≡ none → ⊥) × ((f : ℕ) → a ≡ frame_found f → f ≤ mark)
 
-  bounded_floor : (mark : ℕ) (fl : Floor) → AtMost mark fl → Bounded mark (floor_answer fl)
+  bounded_floor : (mark : ℕ) (fl : Option ℕ) → AtMost mark fl → Bounded mark (floor_answer fl)
   unfolding AtMost
-  bounded_floor mark (Mark f) h =
-      ((λ e. let z : ◌≡◌ {A = ℕ} 0 1 = cc in omega arith), λ g e. let z : f ≡ g = cc in omega arith)
-  bounded_floor mark NoMark h = absurd h
+  bounded_floor mark (Some f) h =
+      ((λ e. cc), λ g e. let z : f ≡ g = cc in omega arith)
+  bounded_floor mark None h = absurd h
 
   pub floor_bounded : (i mark : ℕ) → i < n → live mode bytes p m i ≡ true → get_or m.reader_frames i 0 ≡ mark → (mark ≡ 0 → ⊥) → Bounded mark result.answer
   floor_bounded i mark b t e g = go (ℕ_discrete number_given 0)
     where
       away : (k : ℕ) → Bounded mark (refused k)
-      away k = ((λ e. let z : ◌≡◌ {A = ℕ} 0 1 = cc in omega arith), λ f e. let z : ◌≡◌ {A = ℕ} 0 1 = cc in absurd (omega arith))
+      away k = ((λ e. cc), λ f e. cc)
 
       go : Dec (number_given ≡ 0) → Bounded mark result.answer
       go (yes x) = subst (λ (d : Done). Bounded mark d.answer) (sym (floor_accepted x)) (bounded_floor mark (floor_of n mode bytes m p) (floor_at_most mode bytes p m n i mark b t e g))
@@ -179,12 +177,12 @@ module _ (n : ℕ) (mode : SharedWalOwnershipMode) (bytes : List ℕ) (m : Memor
   db_file_tests x q = probe_tests n mode bytes (looked_at n (db_file_reader_of n mode bytes x q)) x q
 
   abbrev db_file_call : Call
-  db_file_call x q = does (flag (found_slot (db_file_reader_of n mode bytes x q))) (reclaim_dead mode bytes q (looked_at n (db_file_reader_of n mode bytes x q))) x q
+  db_file_call x q = does (flag (is_some (db_file_reader_of n mode bytes x q))) (reclaim_dead mode bytes q (looked_at n (db_file_reader_of n mode bytes x q))) x q
 
   pub db_file_keeps : (j : ℕ) → held p j ≡ true → SlotSame j m (after (has_active_db_file_reader n mode bytes) m p).memory
   unfolding has_active_db_file_reader
   db_file_keeps j here = go (ℕ_discrete (lowest (db_file_tests m p)) 0)
     where
       go : Dec (lowest (db_file_tests m p) ≡ 0) → SlotSame j m (after (has_active_db_file_reader n mode bytes) m p).memory
-      go (yes x) = subst (λ (d : Done). SlotSame j m d.memory) (sym (accepts db_file_tests db_file_call m p x)) (dead_keeps mode bytes p j here looked m)
-      go (no f) = subst (λ (d : Done). SlotSame j m d.memory) (sym (refuses db_file_tests db_file_call m p (lowest (db_file_tests m p)) refl f)) (slot_same j m)
+      go (yes x) = subst (λ (d : Done). SlotSame j m d.memory) (sym (call_accepted db_file_tests db_file_call m p x)) (dead_keeps mode bytes p j here looked m)
+      go (no f) = subst (λ (d : Done). SlotSame j m d.memory) (sym (call_refused db_file_tests db_file_call m p (lowest (db_file_tests m p)) refl f)) (slot_same j m)

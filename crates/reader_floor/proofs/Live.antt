@@ -11,11 +11,7 @@ use lib.Seq.{get_or-set_other}
 use Rattle.wal_types.specs.declared.SharedWalOwnershipMode.{SharedWalOwnershipMode}
 use Rattle.wal_types.specs.Settings.{unused}
 use Rattle.wal_types.specs.Memory.{Memory, Process, blank_memory, blank_process}
-use Rattle.reader_slots.specs.declared.slots.Slot.{Slot}
-use Rattle.reader_probe.specs.declared.live.Floor.{Floor}
-use Rattle.reader_probe.specs.declared.live.Floor.TheVariants.{NoMark}
-use Rattle.reader_probe.specs.declared.live.LiveFrame.{LiveFrame}
-use Rattle.reader_probe.specs.declared.live.LiveFrame.TheVariants.{Frame, NotLive}
+use Rattle.std.specs.Prelude.{Option, Some, None}
 use Rattle.reader_slots.specs.Slots.{granted, slots_in, locals_in}
 use Rattle.reader_slots.specs.Search.{lowest_slot, some_slot}
 use Rattle.reader_probe.specs.Live.{dead, live, lower_floor, looked_at}
@@ -56,10 +52,10 @@ module _ (mode : SharedWalOwnershipMode) (i : ℕ) (b f o b' f' o' : List ℕ) w
       }
 
 -- one slot's answer, by the lists as they were
-abbrev Told : SharedWalOwnershipMode → List ℕ → List ℕ → List ℕ → List ℕ → ℕ → LiveFrame → Type 0
+abbrev Told : SharedWalOwnershipMode → List ℕ → List ℕ → List ℕ → List ℕ → ℕ → Option ℕ → Type 0
 Told mode bytes f o l i r = r ≡ live_frame (live_by mode bytes f o l i) (get_or f i 0)
 
-told_before : (mode : SharedWalOwnershipMode) (bytes f o l f₀ o₀ : List ℕ) (i : ℕ) (r : LiveFrame) → SameFrom i f o f₀ o₀ → Told mode bytes f o l i r → Told mode bytes f₀ o₀ l i r
+told_before : (mode : SharedWalOwnershipMode) (bytes f o l f₀ o₀ : List ℕ) (i : ℕ) (r : Option ℕ) → SameFrom i f o f₀ o₀ → Told mode bytes f o l i r → Told mode bytes f₀ o₀ l i r
 told_before mode bytes f o l f₀ o₀ i r s e =
     e ∙ rw (s.frames_same i unused (omega arith), s.frames_same i 0 (omega arith), s.owners_same i 0 (omega arith))
 
@@ -68,7 +64,7 @@ told_db_file true frame = refl
 told_db_file false frame = refl
 
 -- whether slot i has a live reader of the database file, by the lists now and as they were
-module _ (mode : SharedWalOwnershipMode) (bytes f o l : List ℕ) (i : ℕ) (cell : i < length f) (r : LiveFrame) (e : Told mode bytes f o l i r) where
+module _ (mode : SharedWalOwnershipMode) (bytes f o l : List ℕ) (i : ℕ) (cell : i < length f) (r : Option ℕ) (e : Told mode bytes f o l i r) where
   db_now : is_db_file r ≡ live_db_file_by mode bytes f o l i
   db_now = rw (e, told_db_file (live_by mode bytes f o l i) (get_or f i 0), get_or_any f i 0 unused cell)
 
@@ -87,15 +83,15 @@ floor_told : (t : Bool) (frame : ℕ) (so_far : LiveMarks) → (marks_with so_fa
 floor_told true frame so_far = refl
 floor_told false frame so_far = refl
 
-reader_told : (so_far : LiveMarks) (r : LiveFrame) → (marks_with so_far r).db_file_reader ≡ (is_db_file r || so_far.db_file_reader)
-reader_told so_far (Frame frame) = refl
-reader_told so_far NotLive = refl
+reader_told : (so_far : LiveMarks) (r : Option ℕ) → (marks_with so_far r).db_file_reader ≡ (is_db_file r || so_far.db_file_reader)
+reader_told so_far (Some frame) = refl
+reader_told so_far None = refl
 
-floor_next : (mode : SharedWalOwnershipMode) (bytes : List ℕ) (p : Process) (m : Memory) (left less i : ℕ) (so_far whole : Floor) → floor_from mode bytes p m left i so_far ≡ whole → left ≡ suc less → floor_from mode bytes p m less (i + 1) (cond (live mode bytes p m i) (lower_floor so_far (get_or m.reader_frames i 0)) so_far) ≡ whole
+floor_next : (mode : SharedWalOwnershipMode) (bytes : List ℕ) (p : Process) (m : Memory) (left less i : ℕ) (so_far whole : Option ℕ) → floor_from mode bytes p m left i so_far ≡ whole → left ≡ suc less → floor_from mode bytes p m less (i + 1) (cond (live mode bytes p m i) (lower_floor so_far (get_or m.reader_frames i 0)) so_far) ≡ whole
 unfolding floor_from
 floor_next mode bytes p m left less i so_far whole e more = rw more at e
 
-floor_done : (mode : SharedWalOwnershipMode) (bytes : List ℕ) (p : Process) (m : Memory) (left i : ℕ) (so_far whole : Floor) → floor_from mode bytes p m left i so_far ≡ whole → left ≡ 0 → so_far ≡ whole
+floor_done : (mode : SharedWalOwnershipMode) (bytes : List ℕ) (p : Process) (m : Memory) (left i : ℕ) (so_far whole : Option ℕ) → floor_from mode bytes p m left i so_far ≡ whole → left ≡ 0 → so_far ≡ whole
 unfolding floor_from
 floor_done mode bytes p m left i so_far whole e z = rw z at e
 
@@ -112,7 +108,7 @@ unfolding some_slot
 met_done test true whole left i e z = sym e
 met_done test false whole left i e z = sym (rw z at e)
 
-pub marks_start : (n : ℕ) (mode : SharedWalOwnershipMode) (bytes b f o l : List ℕ) → MarksSoFar n mode bytes b f o l 0 b f o (record { floor = NoMark; db_file_reader = false })
+pub marks_start : (n : ℕ) (mode : SharedWalOwnershipMode) (bytes b f o l : List ℕ) → MarksSoFar n mode bytes b f o l 0 b f o (record { floor = None; db_file_reader = false })
 marks_start n mode bytes b f o l =
     record {
       same = record { frames_same = λ j d a. refl; owners_same = λ j d a. refl };
@@ -125,7 +121,7 @@ module _ (n : ℕ) (mode : SharedWalOwnershipMode) (bytes b₀ f₀ o₀ l : Lis
   abbrev is_read : ℕ → ℕ → Bool
   is_read = some_slot (live_db_file_by mode bytes f₀ o₀ l)
 
-  pub marks_turn : i < n → i < length f → (b' f' o' : List ℕ) (r : LiveFrame) → Told mode bytes f o l i r × SlotsBecome (λ m p. emptied_if mode (dead mode bytes p m i) i m) b f o l b' f' o' → MarksSoFar n mode bytes b₀ f₀ o₀ l (i + 1) b' f' o' (marks_with so_far r)
+  pub marks_turn : i < n → i < length f → (b' f' o' : List ℕ) (r : Option ℕ) → Told mode bytes f o l i r × SlotsBecome (λ m p. emptied_if mode (dead mode bytes p m i) i m) b f o l b' f' o' → MarksSoFar n mode bytes b₀ f₀ o₀ l (i + 1) b' f' o' (marks_with so_far r)
   marks_turn lt cell b' f' o' r e =
       record {
         same = same_next mode i b f o b' f' o' bytes l f₀ o₀ h.same e.1;
@@ -149,7 +145,7 @@ module _ (n : ℕ) (mode : SharedWalOwnershipMode) (bytes b₀ f₀ o₀ l : Lis
   )
 
 -- The first live slot of mark 0, with i slots passed.
-abbrev first_db_file : ℕ → SharedWalOwnershipMode → List ℕ → List ℕ → List ℕ → List ℕ → Slot
+abbrev first_db_file : ℕ → SharedWalOwnershipMode → List ℕ → List ℕ → List ℕ → List ℕ → Option ℕ
 first_db_file n mode bytes f o l = lowest_slot (live_db_file_by mode bytes f o l) n 0
 
 pub record DbFileSoFar (n : ℕ) (mode : SharedWalOwnershipMode) (bytes b₀ f₀ o₀ l : List ℕ) (i : ℕ) (b f o : List ℕ) : Type 0 where
@@ -170,10 +166,10 @@ both_left true c e = refl
 both_left false c e = e
 
 module _ (n : ℕ) (mode : SharedWalOwnershipMode) (bytes b₀ f₀ o₀ l : List ℕ) (i : ℕ) (b f o : List ℕ) (h : DbFileSoFar n mode bytes b₀ f₀ o₀ l i b f o) where
-  abbrev k : Slot
+  abbrev k : Option ℕ
   k = first_db_file n mode bytes f₀ o₀ l
 
-  module _ (lt : i < n) (cell : i < length f) (b' f' o' : List ℕ) (r : LiveFrame) (e : Told mode bytes f o l i r × SlotsBecome (λ m p. emptied_if mode (dead mode bytes p m i) i m) b f o l b' f' o') where
+  module _ (lt : i < n) (cell : i < length f) (b' f' o' : List ℕ) (r : Option ℕ) (e : Told mode bytes f o l i r × SlotsBecome (λ m p. emptied_if mode (dead mode bytes p m i) i m) b f o l b' f' o') where
     -- the test of slot i, by the lists as they were
     here_before : is_db_file r ≡ live_db_file_by mode bytes f₀ o₀ l i
     here_before = db_before mode bytes f o l i cell r e.0 f₀ o₀ h.same

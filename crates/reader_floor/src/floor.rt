@@ -2,58 +2,39 @@
 // the dead slots that they meet. A failed probe (refusal 15) is looked for first, so that a refused call changes nothing.
 // The pass over all slots tells both what the floor is and whether a reader of the database file is live; the copy-back
 // limit asks for both.
-ghost use Rattle.std.specs.Prelude.{◌≡◌, ◌+◌, ◌/◌, ◌≤◌, length};
+ghost use Rattle.std.specs.Prelude.{◌≡◌, [], ◌∷◌};
+ghost use Rattle.wal_types.specs.Refusal.{refused_number};
 ghost use Rattle.reader_slots.specs.Slots.{ReaderCall};
+ghost use Rattle.reader_slots.specs.Inner.{HoldSlots};
 ghost use Rattle.reader_floor.specs.Floor.{min_active_reader_frame, has_active_db_file_reader, min_frame_answer, db_file_answer};
 ghost use Rattle.reader_floor.specs.Inner.{all_slots_refusal, MarksOf, DbFileOf};
 
-use reader_probe::live::{Floor, LiveMarks};
+use reader_probe::live::LiveMarks;
 use reader_probe::{live, probe};
 use reader_slots::slots;
-use wal_types::SharedWalOwnershipMode;
+use reader_slots::slots::SlotLens;
+use wal_types::refusal::Refusal;
+use wal_types::{DB_FILE_READER_FRAME, SharedWalOwnershipMode};
 
-// Floor is the least mark above 0 that is held, NoFloor that there is none. Refused changes nothing.
-#[derive(Clone, Copy)]
-pub enum MinFrame {
-    Floor(u64),
-    NoFloor,
-    Refused(u32),
-}
-
-// Whether some reader reads only the database file. Refused changes nothing.
-#[derive(Clone, Copy)]
-pub enum DbFileReader {
-    Active,
-    NoneActive,
-    Refused(u32),
-}
-
-// The refusal of a call that probes every slot, 0 for none. bitmap_len is how many words of the bitmap are lent.
-pub fn all_slots_refusal(
+// The refusals of a call that probes every slot.
+#[tactic(auto, using(crate::proofs::Floored::early_number, crate::proofs::Floored::late_number, reader_slots::proofs::Calls::enough))]
+pub fn check_all_slots(
     n: usize,
     mode: SharedWalOwnershipMode,
-    bitmap_len: usize,
+    bitmap: &[u64],
     reader_frames: &[u64],
     reader_owners: &[u64],
     local_readers: &[u64],
     card: &[u8],
-) -> u32
-    ensures { result ≡ all_slots_refusal n mode card.now bitmap_len reader_frames.now reader_owners.now local_readers.now }
+) -> Result<(), Refusal>
+    ensures { refused_number result ≡ all_slots_refusal n mode card.now bitmap.now reader_frames.now reader_owners.now local_readers.now }
 {
-    let refusal = slots::slots_refusal(
-        n,
-        bitmap_len,
-        reader_frames.len(),
-        reader_owners.len(),
-        local_readers.len(),
-    );
-    if refusal != 0 {
-        return refusal;
-    }
-    probe::floor_refusal(n, mode, reader_frames, reader_owners, local_readers, card)
+    let lens = SlotLens::of(bitmap, reader_frames, reader_owners, local_readers);
+    slots::check_slots(n, lens)?;
+    probe::check_floor(n, mode, reader_frames, reader_owners, local_readers, card)
 }
 
-// The marks of all live slots, in one pass.
+// The marks of all live slots, in one pass. (A for, as below: a proof knows nothing of a closure that stores.)
 pub fn live_marks(
     n: usize,
     mode: SharedWalOwnershipMode,
@@ -63,11 +44,11 @@ pub fn live_marks(
     local_readers: &[u64],
     card: &[u8],
 ) -> LiveMarks
-    requires { (n ≤ 256) × (((n + 63) / 64 ≤ length bitmap.old) × ((n ≤ length reader_frames.old) × ((n ≤ length reader_owners.old) × ((n ≤ length local_readers.now) × (length card.now ≡ n))))) }
+    requires { HoldSlots n bitmap.old (reader_frames.old ∷ reader_owners.old ∷ local_readers.now ∷ card.now ∷ []) }
     ensures { MarksOf n mode card.now bitmap.old reader_frames.old reader_owners.old local_readers.now result bitmap.new reader_frames.new reader_owners.new }
 {
     let mut marks = LiveMarks {
-        floor: Floor::NoMark,
+        floor: None,
         db_file_reader: false,
     };
     for slot in 0..n {
@@ -87,6 +68,7 @@ pub fn live_marks(
 
 // The least mark above 0 of all live readers: frames above it cannot be copied back. Readers of the database file alone
 // are left out.
+#[tactic(auto, using(crate::proofs::Floored::passed, crate::proofs::Floored::floor_accepted))]
 pub fn min_active_reader_frame(
     n: usize,
     mode: SharedWalOwnershipMode,
@@ -95,21 +77,18 @@ pub fn min_active_reader_frame(
     reader_owners: &mut [u64],
     local_readers: &[u64],
     card: &[u8],
-) -> MinFrame
+) -> Result<Option<u64>, Refusal>
     ensures { ReaderCall (min_active_reader_frame n mode card.now) bitmap.old reader_frames.old reader_owners.old local_readers.now (min_frame_answer result) bitmap.new reader_frames.new reader_owners.new local_readers.now }
 {
-    let refusal = all_slots_refusal(
+    check_all_slots(
         n,
         mode,
-        bitmap.len(),
+        bitmap,
         reader_frames,
         reader_owners,
         local_readers,
         card,
-    );
-    if refusal != 0 {
-        return MinFrame::Refused(refusal);
-    }
+    )?;
     let marks = live_marks(
         n,
         mode,
@@ -119,11 +98,7 @@ pub fn min_active_reader_frame(
         local_readers,
         card,
     );
-    let floor = marks.floor;
-    let Floor::Mark(least) = floor else {
-        return MinFrame::NoFloor;
-    };
-    MinFrame::Floor(least)
+    Ok(marks.floor)
 }
 
 // Whether a live slot has mark 0. It stops at the first one.
@@ -136,7 +111,7 @@ fn finds_db_file_reader(
     local_readers: &[u64],
     card: &[u8],
 ) -> bool
-    requires { (n ≤ 256) × (((n + 63) / 64 ≤ length bitmap.old) × ((n ≤ length reader_frames.old) × ((n ≤ length reader_owners.old) × ((n ≤ length local_readers.now) × (length card.now ≡ n))))) }
+    requires { HoldSlots n bitmap.old (reader_frames.old ∷ reader_owners.old ∷ local_readers.now ∷ card.now ∷ []) }
     ensures { DbFileOf n mode card.now bitmap.old reader_frames.old reader_owners.old local_readers.now result bitmap.new reader_frames.new reader_owners.new }
 {
     for slot in 0..n {
@@ -149,7 +124,7 @@ fn finds_db_file_reader(
             card,
             slot,
         );
-        if live::is_db_file_frame(live) {
+        if live == Some(DB_FILE_READER_FRAME) {
             return true;
         }
     }
@@ -157,6 +132,7 @@ fn finds_db_file_reader(
 }
 
 // Whether a reader in any process reads only the database file.
+#[tactic(auto, using(crate::proofs::Floored::db_file_told, reader_slots::proofs::Calls::enough))]
 pub fn has_active_db_file_reader(
     n: usize,
     mode: SharedWalOwnershipMode,
@@ -165,31 +141,13 @@ pub fn has_active_db_file_reader(
     reader_owners: &mut [u64],
     local_readers: &[u64],
     card: &[u8],
-) -> DbFileReader
+) -> Result<bool, Refusal>
     ensures { ReaderCall (has_active_db_file_reader n mode card.now) bitmap.old reader_frames.old reader_owners.old local_readers.now (db_file_answer result) bitmap.new reader_frames.new reader_owners.new local_readers.now }
 {
-    let refusal = slots::slots_refusal(
-        n,
-        bitmap.len(),
-        reader_frames.len(),
-        reader_owners.len(),
-        local_readers.len(),
-    );
-    if refusal != 0 {
-        return DbFileReader::Refused(refusal);
-    }
-    let failure = probe::db_file_refusal(
-        n,
-        mode,
-        reader_frames,
-        reader_owners,
-        local_readers,
-        card,
-    );
-    if failure != 0 {
-        return DbFileReader::Refused(failure);
-    }
-    if finds_db_file_reader(
+    let lens = SlotLens::of(bitmap, reader_frames, reader_owners, local_readers);
+    slots::check_slots(n, lens)?;
+    probe::check_db_file(n, mode, reader_frames, reader_owners, local_readers, card)?;
+    Ok(finds_db_file_reader(
         n,
         mode,
         bitmap,
@@ -197,8 +155,5 @@ pub fn has_active_db_file_reader(
         reader_owners,
         local_readers,
         card,
-    ) {
-        return DbFileReader::Active;
-    }
-    DbFileReader::NoneActive
+    ))
 }

@@ -5,44 +5,30 @@ ghost use Rattle.std.specs.Prelude.{◌≡◌};
 ghost use Rattle.reader_limit.specs.Limit.{limit_of, held_back, copy_back_limit, limit_answer, LimitCall};
 
 use reader_floor::floor;
-use reader_probe::live::Floor;
 use wal_types::SharedWalOwnershipMode;
-
-// Upto is the last frame that may be copied. Refused changes nothing.
-#[derive(Clone, Copy)]
-pub enum Limit {
-    Upto(u64),
-    Refused(u32),
-}
+use wal_types::refusal::Refusal;
 
 // The lesser of the published frame and the floor; the published frame if there is no floor.
-fn limit_by_floor(max_frame: u64, floor: Floor) -> u64
+fn limit_by_floor(max_frame: u64, floor: Option<u64>) -> u64
     ensures { result ≡ limit_of max_frame floor }
 {
-    let Floor::Mark(mark) = floor else {
-        return max_frame;
-    };
-    if mark < max_frame {
-        return mark;
-    }
-    max_frame
+    max_frame.min(floor.unwrap_or(max_frame))
 }
 
 // The lesser of that and the number of frames already copied, if a reader of the database file is live.
 fn limit_by_db_file(limit: u64, db_file_reader: bool, nbackfills: u64) -> u64
     ensures { result ≡ held_back db_file_reader nbackfills limit }
 {
-    if limit <= nbackfills {
-        return limit;
-    }
     if db_file_reader {
-        return nbackfills;
+        limit.min(nbackfills)
+    } else {
+        limit
     }
-    limit
 }
 
 // max_frame is the published frame, nbackfills the number of frames already copied. It reclaims and refuses as the floor
 // does.
+#[tactic(auto, using(reader_floor::proofs::Floored::passed, crate::proofs::Limited::limit_told))]
 pub fn copy_back_limit(
     n: usize,
     mode: SharedWalOwnershipMode,
@@ -53,21 +39,18 @@ pub fn copy_back_limit(
     reader_owners: &mut [u64],
     local_readers: &[u64],
     card: &[u8],
-) -> Limit
+) -> Result<u64, Refusal>
     ensures { LimitCall (copy_back_limit n mode card.now) max_frame nbackfills bitmap.old reader_frames.old reader_owners.old local_readers.now (limit_answer result) bitmap.new reader_frames.new reader_owners.new }
 {
-    let refusal = floor::all_slots_refusal(
+    floor::check_all_slots(
         n,
         mode,
-        bitmap.len(),
+        bitmap,
         reader_frames,
         reader_owners,
         local_readers,
         card,
-    );
-    if refusal != 0 {
-        return Limit::Refused(refusal);
-    }
+    )?;
     let marks = floor::live_marks(
         n,
         mode,
@@ -77,7 +60,6 @@ pub fn copy_back_limit(
         local_readers,
         card,
     );
-    let floor = marks.floor;
-    let limit = limit_by_floor(max_frame, floor);
-    Limit::Upto(limit_by_db_file(limit, marks.db_file_reader, nbackfills))
+    let limit = limit_by_floor(max_frame, marks.floor);
+    Ok(limit_by_db_file(limit, marks.db_file_reader, nbackfills))
 }

@@ -1,9 +1,7 @@
 -- The registry of shared marks: n records (mark, slot, owner, holders); with 0 holders a record is empty. Assumes nothing.
-use Rattle.std.specs.Prelude.{Bool, not, ◌&&◌, cond, List, ℕ, zero, suc, ◌+◌, ◌-◌, eqb, get_or, set}
+use Rattle.std.specs.Prelude.{Bool, not, ◌&&◌, cond, Option, Some, None, List, ℕ, zero, suc, ◌+◌, ◌-◌, eqb, get_or, set}
 use Rattle.wal_types.specs.declared.SharedReadMark.{SharedReadMark}
 use Rattle.wal_types.specs.Memory.{Process, with_registry, no_mark}
-use Rattle.reader_marks.specs.declared.Record.{Record}
-use Rattle.reader_marks.specs.declared.Record.TheVariants.{At, Nothing}
 
 abbrev pub is_empty : SharedReadMark → Bool
 is_empty r = eqb r.holders 0
@@ -13,15 +11,15 @@ abbrev pub fits : ℕ → SharedReadMark → Bool
 fits mark r = not (is_empty r) && eqb r.mark mark
 
 -- the first of so many records, from this one on, that the test picks
-unfoldable pub first_record : (SharedReadMark → Bool) → List SharedReadMark → ℕ → ℕ → Record
-first_record test registry zero i = Nothing
-first_record test registry (suc left) i = cond (test (get_or registry i no_mark)) (At i) (first_record test registry left (i + 1))
+unfoldable pub first_record : (SharedReadMark → Bool) → List SharedReadMark → ℕ → ℕ → Option ℕ
+first_record test registry zero i = None
+first_record test registry (suc left) i = cond (test (get_or registry i no_mark)) (Some i) (first_record test registry left (i + 1))
 
 -- the first record of a mark, and the first empty one
-abbrev pub record_of : ℕ → List SharedReadMark → ℕ → Record
+abbrev pub record_of : ℕ → List SharedReadMark → ℕ → Option ℕ
 record_of n registry mark = first_record (fits mark) registry n 0
 
-abbrev pub empty_record : ℕ → List SharedReadMark → Record
+abbrev pub empty_record : ℕ → List SharedReadMark → Option ℕ
 empty_record n registry = first_record is_empty registry n 0
 
 -- a record with a holder more, and with a holder less

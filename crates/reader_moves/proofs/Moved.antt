@@ -1,16 +1,16 @@
 -- What update_reader and unregister_reader do to one slot, and that other slots keep their cells. Assumes nothing.
 use mathlib.Core.Path.{◌≡◌, refl, sym, ap, ◌∙◌, subst}
-use mathlib.Core.Bool.{Bool, true, false, not, cond, ◌||◌}
+use mathlib.Core.Bool.{true, false, ◌||◌}
 use Prim.Native.Nat.{ℕ, ◌/◌, ◌%◌, ◌<◌}
 use native.Mathlib.Decide.{ℕ_discrete}
 use native.Mathlib.Omega.{arith}
-use lib.Dec.{eqb, leb, ltb}
+use lib.Dec.{eqb, ltb}
 use lib.ListN.{length, get_or}
 use lib.Seq.{get_or-set_same, get_or-set_other}
 use borrow.Author.Tests.{leb-false, ltb-false, eqb-true, eqb-false, not-false}
 use Rattle.wal_types.specs.declared.SharedWalOwnershipMode.{SharedWalOwnershipMode}
 use Rattle.wal_types.specs.declared.SharedWalOwnershipMode.TheVariants.{LinuxOfd, ProcessScopedFcntl}
-use Rattle.wal_types.specs.Settings.{slots_in_limits, unused}
+use Rattle.wal_types.specs.Settings.{unused}
 use Rattle.wal_types.specs.Memory.{Memory, Process, slot_bit, to_reader_frame}
 use Rattle.wal_types.specs.Store.{apply, one}
 use Rattle.wal_types.specs.Refusal.{lowest}
@@ -18,25 +18,11 @@ use Rattle.wal_types.specs.Call.{ok, refused, slot_taken, Done, after, does}
 use Rattle.word_bits.specs.Bit.{set_bit}
 use Rattle.word_bits.proofs.Bits.{set_same}
 use Rattle.reader_slots.specs.Slots.{short_slots, is_in_registry, held, with_local, empty_slot}
-use Rattle.reader_slots.specs.Inner.{slots_refusal}
-use Rattle.reader_moves.specs.Update.{not_shared_owner, not_owner, update_tests, update_reader, release_tests, releases_slot, unregister_reader}
-use Rattle.reader_slots.proofs.Calls.{refuses, accepts, Enough, enough}
+use Rattle.reader_slots.specs.Inner.{lens_of}
+use Rattle.reader_moves.specs.Update.{update_tests, update_reader, release_tests, releases_slot, unregister_reader}
+use Rattle.wal_types.proofs.Refusals.{call_refused, call_accepted}
+use Rattle.reader_slots.proofs.Calls.{none_applies, neither_true, Enough, enough_by}
 use Rattle.reader_slots.proofs.Kept.{SlotSame, slot_same, emptied_other}
-
--- seven tests, none of which applies
-none_applies : (s h a b c d e : Bool) (i j k l m : ℕ) → (0 < i) × ((0 < j) × ((0 < k) × ((0 < l) × (0 < m)))) → ◌≡◌ {A = ℕ} (cond s 1 (cond h 2 (cond a i (cond b j (cond c k (cond d l (cond e m 0))))))) 0 → ((s ≡ false) × (h ≡ false)) × ((a ≡ false) × ((b ≡ false) × ((c ≡ false) × ((d ≡ false) × (e ≡ false)))))
-none_applies true h a b c d e i j k l m p q = absurd (omega arith)
-none_applies false true a b c d e i j k l m p q = absurd (omega arith)
-none_applies false false true b c d e i j k l m p q = absurd (omega arith)
-none_applies false false false true c d e i j k l m p q = absurd (omega arith)
-none_applies false false false false true d e i j k l m p q = absurd (omega arith)
-none_applies false false false false false true e i j k l m p q = absurd (omega arith)
-none_applies false false false false false false true i j k l m p q = absurd (omega arith)
-none_applies false false false false false false false i j k l m p q = ((refl, refl), (refl, (refl, (refl, (refl, refl)))))
-
-left_false : (a b : Bool) → (a || b) ≡ false → a ≡ false
-left_false true b e = e
-left_false false b e = refl
 
 -- unregister_reader
 module _ (n : ℕ) (mode : SharedWalOwnershipMode) (slot owner : ℕ) (m : Memory) (p : Process) where
@@ -48,11 +34,11 @@ module _ (n : ℕ) (mode : SharedWalOwnershipMode) (slot owner : ℕ) (m : Memor
 
   pub release_refused : (release_number ≡ 0 → ⊥) → released ≡ record { answer = refused release_number; memory = m; process = p }
   unfolding unregister_reader
-  release_refused x = refuses (release_tests n mode slot owner) (releases_slot mode slot) m p release_number refl x
+  release_refused x = call_refused (release_tests n mode slot owner) (releases_slot mode slot) m p release_number refl x
 
   pub release_accepted : release_number ≡ 0 → released ≡ record { answer = ok; memory = apply (empty_slot mode slot m) m; process = with_local p slot 0 }
   unfolding unregister_reader
-  release_accepted x = accepts (release_tests n mode slot owner) (releases_slot mode slot) m p x
+  release_accepted x = call_accepted (release_tests n mode slot owner) (releases_slot mode slot) m p x
 
   abbrev Others : ℕ → Done → Type 0
   Others j d = SlotSame j m d.memory × (get_or d.process.local_readers j 0 ≡ get_or p.local_readers j 0)
@@ -65,13 +51,10 @@ module _ (n : ℕ) (mode : SharedWalOwnershipMode) (slot owner : ℕ) (m : Memor
       go (yes x) = subst (Others j) (sym (release_accepted x)) (emptied_other mode slot j m f, get_or-set_other p.local_readers slot j 0 0 f)
       go (no g) = subst (Others j) (sym (release_refused g)) (slot_same j m, refl)
 
-  passes : release_number ≡ 0 → ((not (slots_in_limits n) ≡ false) × ((short_slots n m p || ltb (length p.registry) n) ≡ false)) × ((leb n slot ≡ false) × ((not (held p slot) ≡ false) × ((not_owner mode slot owner m p ≡ false) × ((eqb owner 0 ≡ false) × (is_in_registry n p.registry slot ≡ false)))))
-  passes x = none_applies (not (slots_in_limits n)) (short_slots n m p || ltb (length p.registry) n) (leb n slot) (not (held p slot)) (not_owner mode slot owner m p) (eqb owner 0) (is_in_registry n p.registry slot) 6 7 8 9 11 (omega arith) x
-
-  release_room : release_number ≡ 0 → Enough n (length m.bitmap) (length m.reader_frames) (length m.reader_owners) (length p.local_readers)
-  unfolding slots_refusal
+  release_room : release_number ≡ 0 → Enough n (lens_of m.bitmap m.reader_frames m.reader_owners p.local_readers)
   release_room x =
-      enough n (length m.bitmap) (length m.reader_frames) (length m.reader_owners) (length p.local_readers) 0 (rw ((passes x).0.0, left_false (short_slots n m p) (ltb (length p.registry) n) (passes x).0.1)) refl
+      let t = none_applies (release_tests n mode slot owner m p) x in
+      enough_by n (lens_of m.bitmap m.reader_frames m.reader_owners p.local_readers) t.0 (neither_true (short_slots n m p) (ltb (length p.registry) n) t.1.0).0
 
   -- What is so of a slot that is released: before it, and in the memory m' and the process p' after it.
   pub record FreedSlot (m' : Memory) (p' : Process) : Type 0 where
@@ -87,7 +70,7 @@ module _ (n : ℕ) (mode : SharedWalOwnershipMode) (slot owner : ℕ) (m : Memor
   freed x = go mode
     where
       small : slot < n
-      small = leb-false n slot (passes x).1.0
+      small = leb-false n slot (none_applies (release_tests n mode slot owner m p) x).1.1.0
 
       word : slot / 64 < length m.bitmap
       word = omega (arith, small, release_room x)
@@ -104,8 +87,8 @@ module _ (n : ℕ) (mode : SharedWalOwnershipMode) (slot owner : ℕ) (m : Memor
           rw (at md)
           (record {
             below = small;
-            was_held = not-false (held p slot) (passes x).1.1.0;
-            not_shared = (passes x).1.1.1.1.1;
+            was_held = not-false (held p slot) (none_applies (release_tests n mode slot owner m p) x).1.1.1.0;
+            not_shared = (none_applies (release_tests n mode slot owner m p) x).1.1.1.1.1.1.0;
             frame_is = get_or-set_same m.reader_frames slot unused unused (omega (arith, small, release_room x));
             owner_is = get_or-set_same m.reader_owners slot 0 0 (omega (arith, small, release_room x));
             bit_is = bit;
@@ -117,7 +100,7 @@ module _ (n : ℕ) (mode : SharedWalOwnershipMode) (slot owner : ℕ) (m : Memor
     where
       go : Dec (release_number ≡ 0) → FreedSlot released.memory released.process
       go (yes x) = subst (λ (d : Done). FreedSlot d.memory d.process) (sym (release_accepted x)) (freed x)
-      go (no f) = let r : refused release_number ≡ ok = sym (ap (λ (d : Done). d.answer) (release_refused f)) ∙ e in let y : ◌≡◌ {A = ℕ} 0 1 = cc in absurd (omega arith)
+      go (no f) = let r : refused release_number ≡ ok = sym (ap (λ (d : Done). d.answer) (release_refused f)) ∙ e in cc
 
 -- update_reader
 module _ (n slot owner mark : ℕ) (m : Memory) (p : Process) where
@@ -132,11 +115,11 @@ module _ (n slot owner mark : ℕ) (m : Memory) (p : Process) where
 
   pub move_refused : (move_number ≡ 0 → ⊥) → moved ≡ record { answer = refused move_number; memory = m; process = p }
   unfolding update_reader
-  move_refused x = refuses (update_tests n slot owner mark) (does (slot_taken slot owner mark) (one (to_reader_frame slot mark))) m p move_number refl x
+  move_refused x = call_refused (update_tests n slot owner mark) (does (slot_taken slot owner mark) (one (to_reader_frame slot mark))) m p move_number refl x
 
   pub move_accepted : move_number ≡ 0 → moved ≡ record { answer = slot_taken slot owner mark; memory = in_slot; process = p }
   unfolding update_reader
-  move_accepted x = accepts (update_tests n slot owner mark) (does (slot_taken slot owner mark) (one (to_reader_frame slot mark))) m p x
+  move_accepted x = call_accepted (update_tests n slot owner mark) (does (slot_taken slot owner mark) (one (to_reader_frame slot mark))) m p x
 
   -- other slots keep their cells
   pub move_others : (j : ℕ) → (j ≡ slot → ⊥) → SlotSame j m moved.memory × (moved.process ≡ p)
@@ -156,19 +139,17 @@ module _ (n slot owner mark : ℕ) (m : Memory) (p : Process) where
     pub owner_same : get_or m'.reader_owners slot 0 ≡ get_or m.reader_owners slot 0
     pub bit_same : slot_bit m'.bitmap slot ≡ slot_bit m.bitmap slot
 
-  abbrev move_short : Bool
-  move_short = ltb (length m.reader_frames) n || ltb (length m.reader_owners) n || ltb (length p.registry) n
-
   in_moved : move_number ≡ 0 → MovedSlot in_slot
   in_moved x =
-      let t = none_applies (not (slots_in_limits n)) move_short (leb n slot) (not_shared_owner slot owner m) (eqb owner 0) (eqb mark unused) (is_in_registry n p.registry slot) 6 8 9 10 11 (omega arith) x in
-      let small = leb-false n slot t.1.0 in
-      let long = ltb-false (length m.reader_frames) n (left_false (ltb (length m.reader_frames) n) (ltb (length m.reader_owners) n) (left_false (ltb (length m.reader_frames) n || ltb (length m.reader_owners) n) (ltb (length p.registry) n) t.0.1)) in
+      let t = none_applies (update_tests n slot owner mark m p) x in
+      let small = leb-false n slot t.1.1.0 in
+      let lent = neither_true (ltb (length m.reader_frames) n) (ltb (length m.reader_owners) n) (neither_true (ltb (length m.reader_frames) n || ltb (length m.reader_owners) n) (ltb (length p.registry) n) t.1.0).0 in
+      let long = ltb-false (length m.reader_frames) n lent.0 in
       record {
         below = small;
-        owned = eqb-true owner (get_or m.reader_owners slot 0) (not-false (eqb owner (get_or m.reader_owners slot 0)) t.1.1.0);
-        used = eqb-false mark unused t.1.1.1.1.0;
-        not_shared = t.1.1.1.1.1;
+        owned = eqb-true owner (get_or m.reader_owners slot 0) (not-false (eqb owner (get_or m.reader_owners slot 0)) t.1.1.1.0);
+        used = eqb-false mark unused t.1.1.1.1.1.0;
+        not_shared = t.1.1.1.1.1.1.0;
         frame_is = get_or-set_same m.reader_frames slot mark unused (omega arith);
         owner_same = refl;
         bit_same = refl;
@@ -181,4 +162,4 @@ module _ (n slot owner mark : ℕ) (m : Memory) (p : Process) where
       go (yes x) =
           let r : slot_taken slot owner mark ≡ slot_taken i o k = sym (ap (λ (d : Done). d.answer) (move_accepted x)) ∙ e in
           (((cc), ((cc), (cc))), subst (λ (d : Done). MovedSlot d.memory) (sym (move_accepted x)) (in_moved x))
-      go (no f) = let r : refused move_number ≡ slot_taken i o k = sym (ap (λ (d : Done). d.answer) (move_refused f)) ∙ e in let y : ◌≡◌ {A = ℕ} 0 1 = cc in absurd (omega arith)
+      go (no f) = let r : refused move_number ≡ slot_taken i o k = sym (ap (λ (d : Done). d.answer) (move_refused f)) ∙ e in cc

@@ -11,16 +11,19 @@ use borrow.Author.Tests.{eq-eqb, ne_eqb, le-leb, lt-leb, le-ltb}
 use Rattle.wal_types.specs.declared.SharedWalOwnershipMode.{SharedWalOwnershipMode}
 use Rattle.wal_types.specs.Memory.{Memory, Process, to_reader_frame}
 use Rattle.wal_types.specs.Store.{apply, one}
-use Rattle.wal_types.specs.Refusal.{Test, ◌if◌, lowest, slot_number, not_held, other_owner, no_owner, shared_slot}
+use Rattle.wal_types.specs.declared.refusal.Refusal.{Refusal}
+use Rattle.wal_types.specs.Refusal.{Test, ◌if◌, number, lowest}
+use Rattle.wal_types.proofs.Refusals.{number_not_zero, call_refused, call_accepted}
+use Rattle.wal_types.specs.declared.refusal.Refusal.TheVariants.{SlotNumber, NotHeld, OtherOwner, NoOwner, SharedSlot}
 use Rattle.wal_types.specs.Call.{Call, Answer, refused, slot_taken, ok, does}
 use Rattle.wal_types.specs.Settings.{is_fcntl}
 use Rattle.reader_slots.specs.Slots.{is_in_registry, empty_slot, slots_in, locals_in}
-use Rattle.reader_slots.specs.Inner.{registry_tests, registry_refusal, reader_tests, reader_refusal, SlotsBecome}
+use Rattle.reader_slots.specs.Inner.{lens_of, registry_tests, registry_refusal, reader_tests, reader_refusal, SlotsBecome}
 use Rattle.reader_moves.specs.Update.{update_tests, update_reader, MoveCall, release_tests, releases_slot, unregister_reader, ReleaseCall}
-use Rattle.reader_slots.proofs.Calls.{refuses, accepts, lowest_first, lowest_rest}
+use Rattle.reader_slots.proofs.Calls.{lowest_first, lowest_rest}
 
 -- update_reader where no refusal below 9 applies
-module _ (n slot owner mark : ℕ) (shared : Bool) (records : ℕ) (f o : List ℕ) (some : 1 ≤ n) (most : n ≤ 256) (frames : n ≤ length f) (owners : n ≤ length o) (long : n ≤ records) (small : slot < n) (same : owner ≡ get_or o slot 0) (j : ℕ) (e : j ≡ reader_refusal owner mark) where
+module _ (n slot owner mark : ℕ) (shared : Bool) (records : ℕ) (f o : List ℕ) (some : 1 ≤ n) (most : n ≤ 256) (frames : n ≤ length f) (owners : n ≤ length o) (long : n ≤ records) (small : slot < n) (same : owner ≡ get_or o slot 0) where
   abbrev Moves : Answer → List ℕ → Type 0
   Moves a f' = MoveCall n slot shared records (update_reader n slot owner mark) f o a f'
 
@@ -28,60 +31,61 @@ module _ (n slot owner mark : ℕ) (shared : Bool) (records : ℕ) (f o : List �
   moves = does (slot_taken slot owner mark) (one (to_reader_frame slot mark))
 
   abbrev last_test : List Test
-  last_test = (shared_slot if shared) ∷ []
+  last_test = (SharedSlot if shared) ∷ []
 
   move_number : (z : Memory) (p : Process) → is_in_registry n p.registry slot ≡ shared → length p.registry ≡ records → lowest (update_tests n slot owner mark (slots_in z z.bitmap f o) p) ≡ lowest (reader_tests owner mark ++ last_test)
   move_number z p s g = rw (s, g, le-leb 1 n some, le-leb n 256 most, le-ltb (length f) n frames, le-ltb (length o) n owners, le-ltb records n long, lt-leb n slot small, eq-eqb owner (get_or o slot 0) same)
 
-  pub move_reader : (j ≡ 0 → ⊥) → Moves (refused j) f
+  pub move_reader : (r : Refusal) → number r ≡ reader_refusal owner mark → Moves (refused (number r)) f
   unfolding update_reader reader_refusal
-  move_reader x z p s g = refuses (update_tests n slot owner mark) moves (slots_in z z.bitmap f o) p j (move_number z p s g ∙ lowest_first (reader_tests owner mark) last_test j e x) x
+  move_reader r e z p s g = call_refused (update_tests n slot owner mark) moves (slots_in z z.bitmap f o) p (number r) (move_number z p s g ∙ lowest_first (reader_tests owner mark) last_test r e) (number_not_zero r)
 
-  pub move_shared : j ≡ 0 → shared ≡ true → Moves (refused 11) f
-  unfolding update_reader reader_refusal
-  move_shared x y z p s g = refuses (update_tests n slot owner mark) moves (slots_in z z.bitmap f o) p 11 (move_number z p s g ∙ lowest_rest (reader_tests owner mark) last_test j e x ∙ rw y) (λ q. omega arith)
+  module _ (fine : 0 ≡ reader_refusal owner mark) where
+    pub move_shared : shared ≡ true → Moves (refused 11) f
+    unfolding update_reader reader_refusal
+    move_shared y z p s g = call_refused (update_tests n slot owner mark) moves (slots_in z z.bitmap f o) p 11 (move_number z p s g ∙ lowest_rest (reader_tests owner mark) last_test fine ∙ rw y) (λ q. omega arith)
 
-  pub move_done : j ≡ 0 → shared ≡ false → Moves (slot_taken slot owner mark) (set f slot mark)
-  unfolding update_reader reader_refusal
-  move_done x y z p s g = accepts (update_tests n slot owner mark) moves (slots_in z z.bitmap f o) p (move_number z p s g ∙ lowest_rest (reader_tests owner mark) last_test j e x ∙ rw y)
+    pub move_done : shared ≡ false → Moves (slot_taken slot owner mark) (set f slot mark)
+    unfolding update_reader reader_refusal
+    move_done y z p s g = call_accepted (update_tests n slot owner mark) moves (slots_in z z.bitmap f o) p (move_number z p s g ∙ lowest_rest (reader_tests owner mark) last_test fine ∙ rw y)
 
-  -- to the mark that the slot has already: nothing is stored
-  pub move_stays : j ≡ 0 → shared ≡ false → get_or f slot 0 ≡ mark → Moves (slot_taken slot owner mark) f
-  move_stays x y there = subst (Moves (slot_taken slot owner mark)) (ap (set f slot) (sym there) ∙ set-get_or f slot 0) (move_done x y)
+    -- to the mark that the slot has already: nothing is stored
+    pub move_stays : shared ≡ false → get_or f slot 0 ≡ mark → Moves (slot_taken slot owner mark) f
+    move_stays y there = subst (Moves (slot_taken slot owner mark)) (ap (set f slot) (sym there) ∙ set-get_or f slot 0) (move_done y)
 
 -- unregister_reader: the owner given is not the shared one, or in Fcntl not the local one
 abbrev pub other : SharedWalOwnershipMode → ℕ → ℕ → List ℕ → List ℕ → Bool
 other mode slot owner o l = not (eqb owner (get_or o slot 0)) || (is_fcntl mode && not (eqb owner (get_or l slot 0)))
 
-module _ (n : ℕ) (mode : SharedWalOwnershipMode) (slot owner : ℕ) (shared : Bool) (records : ℕ) (b f o l : List ℕ) (k : ℕ) (e : k ≡ registry_refusal n (length b) (length f) (length o) (length l) records) where
+module _ (n : ℕ) (mode : SharedWalOwnershipMode) (slot owner : ℕ) (shared : Bool) (records : ℕ) (b f o l : List ℕ) where
   abbrev Means : Answer → List ℕ → List ℕ → List ℕ → List ℕ → Type 0
   Means a b' f' o' l' = ReleaseCall n slot shared records (unregister_reader n mode slot owner) b f o l a b' f' o' l'
 
   -- the tests after 1 and 2
   abbrev later_tests : List Test
   later_tests =
-      (slot_number if leb n slot)
-      ∷ (not_held if not (not (eqb (get_or l slot 0) 0)))
-      ∷ (other_owner if other mode slot owner o l)
-      ∷ (no_owner if eqb owner 0)
-      ∷ (shared_slot if shared)
+      (SlotNumber if leb n slot)
+      ∷ (NotHeld if not (not (eqb (get_or l slot 0) 0)))
+      ∷ (OtherOwner if other mode slot owner o l)
+      ∷ (NoOwner if eqb owner 0)
+      ∷ (SharedSlot if shared)
       ∷ []
 
   abbrev all_tests : List Test
-  all_tests = registry_tests n (length b) (length f) (length o) (length l) records ++ later_tests
+  all_tests = registry_tests n (lens_of b f o l) records ++ later_tests
 
   by_number : (r : ℕ) → lowest all_tests ≡ r → (r ≡ 0 → ⊥) → Means (refused r) b f o l
   unfolding unregister_reader
-  by_number r x y z p s g = refuses (release_tests n mode slot owner) (releases_slot mode slot) (slots_in z b f o) (locals_in p l) r (rw (s, g) x) y
+  by_number r x y z p s g = call_refused (release_tests n mode slot owner) (releases_slot mode slot) (slots_in z b f o) (locals_in p l) r (rw (s, g) x) y
 
-  pub release_early : (k ≡ 0 → ⊥) → Means (refused k) b f o l
+  pub release_early : (r : Refusal) → number r ≡ registry_refusal n (lens_of b f o l) records → Means (refused (number r)) b f o l
   unfolding registry_refusal
-  release_early x = by_number k (lowest_first (registry_tests n (length b) (length f) (length o) (length l) records) later_tests k e x) x
+  release_early r e = by_number (number r) (lowest_first (registry_tests n (lens_of b f o l) records) later_tests r e) (number_not_zero r)
 
-  module _ (fine : k ≡ 0) where
+  module _ (fine : 0 ≡ registry_refusal n (lens_of b f o l) records) where
     by_later : (r : ℕ) → lowest later_tests ≡ r → lowest all_tests ≡ r
     unfolding registry_refusal
-    by_later r x = lowest_rest (registry_tests n (length b) (length f) (length o) (length l) records) later_tests k e fine ∙ x
+    by_later r x = lowest_rest (registry_tests n (lens_of b f o l) records) later_tests fine ∙ x
 
     pub release_slot_number : n ≤ slot → Means (refused 6) b f o l
     release_slot_number x = by_number 6 (by_later 6 (rw (le-leb n slot x))) (λ q. omega arith)
@@ -107,6 +111,6 @@ module _ (n : ℕ) (mode : SharedWalOwnershipMode) (slot owner : ℕ) (shared : 
             pub release_done : shared ≡ false → (b' f' o' l' : List ℕ) → SlotsBecome (λ m p. apply (empty_slot mode slot m) m) b f o l b' f' o' × (l' ≡ set l slot 0) → Means ok b' f' o' l'
             unfolding unregister_reader
             release_done x b' f' o' l' h z p s g =
-                accepts (release_tests n mode slot owner) (releases_slot mode slot) (slots_in z b f o) (locals_in p l)
+                call_accepted (release_tests n mode slot owner) (releases_slot mode slot) (slots_in z b f o) (locals_in p l)
                 (rw (s, g) (by_later 0 (rw (lt-leb n slot small, ne_eqb (get_or l slot 0) 0 held_here, same, ne_eqb owner 0 owned, x))))
                 ∙ rw (h.0 z p, h.1)

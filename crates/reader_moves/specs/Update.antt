@@ -1,15 +1,13 @@
 -- update_reader (a move) and unregister_reader (a release). Assumes nothing.
-use Rattle.std.specs.Prelude.{◌≡◌, Bool, not, ◌&&◌, ◌||◌, List, [], ◌∷◌, ℕ, eqb, leb, ltb, length, get_or}
+use Rattle.std.specs.Prelude.{◌≡◌, ⊤, Result, Ok, Err, Bool, not, ◌&&◌, ◌||◌, List, [], ◌∷◌, ℕ, eqb, leb, ltb, length, get_or}
 use Rattle.wal_types.specs.declared.SharedWalOwnershipMode.{SharedWalOwnershipMode}
 use Rattle.wal_types.specs.Settings.{slots_in_limits, unused, is_fcntl}
 use Rattle.wal_types.specs.Memory.{Memory, Process, to_reader_frame}
 use Rattle.wal_types.specs.Store.{one}
-use Rattle.wal_types.specs.Refusal.{Test, ◌if◌, settings, short_memory, slot_number, not_held, other_owner, no_owner, unused_mark, shared_slot}
+use Rattle.wal_types.specs.declared.refusal.Refusal.{Refusal}
+use Rattle.wal_types.specs.Refusal.{Test, ◌if◌, number}
+use Rattle.wal_types.specs.declared.refusal.Refusal.TheVariants.{Settings, ShortMemory, SlotNumber, NotHeld, OtherOwner, NoOwner, UnusedMark, SharedSlot}
 use Rattle.wal_types.specs.Call.{Call, Carried, Answer, refused, slot_taken, ok, does, unless, after, done}
-use Rattle.reader_moves.specs.declared.update.Update.{Update}
-use Rattle.reader_moves.specs.declared.update.Update.TheVariants.{Moved, Refused as NotMoved}
-use Rattle.reader_moves.specs.declared.update.Release.{Release}
-use Rattle.reader_moves.specs.declared.update.Release.TheVariants.{Released, Refused as NotReleased}
 use Rattle.reader_slots.specs.Slots.{short_slots, is_in_registry, held, with_local, empty_slot, slots_in, locals_in}
 
 -- the owner given is not the slot's shared owner
@@ -19,13 +17,13 @@ not_shared_owner slot owner m = not (eqb owner (get_or m.reader_owners slot 0))
 -- A move is lent slot frames, slot owners and the registry. It needs no hold here, and compares the shared owner only.
 abbrev pub update_tests : ℕ → ℕ → ℕ → ℕ → Memory → Process → List Test
 update_tests n slot owner mark m p =
-    (settings if not (slots_in_limits n))
-    ∷ (short_memory if (ltb (length m.reader_frames) n || ltb (length m.reader_owners) n || ltb (length p.registry) n))
-    ∷ (slot_number if leb n slot)
-    ∷ (other_owner if not_shared_owner slot owner m)
-    ∷ (no_owner if eqb owner 0)
-    ∷ (unused_mark if eqb mark unused)
-    ∷ (shared_slot if is_in_registry n p.registry slot)
+    (Settings if not (slots_in_limits n))
+    ∷ (ShortMemory if (ltb (length m.reader_frames) n || ltb (length m.reader_owners) n || ltb (length p.registry) n))
+    ∷ (SlotNumber if leb n slot)
+    ∷ (OtherOwner if not_shared_owner slot owner m)
+    ∷ (NoOwner if eqb owner 0)
+    ∷ (UnusedMark if eqb mark unused)
+    ∷ (SharedSlot if is_in_registry n p.registry slot)
     ∷ []
 
 unfoldable pub update_reader : ℕ → ℕ → ℕ → ℕ → Call
@@ -39,13 +37,13 @@ not_owner mode slot owner m p =
 
 abbrev pub release_tests : ℕ → SharedWalOwnershipMode → ℕ → ℕ → Memory → Process → List Test
 release_tests n mode slot owner m p =
-    (settings if not (slots_in_limits n))
-    ∷ (short_memory if (short_slots n m p || ltb (length p.registry) n))
-    ∷ (slot_number if leb n slot)
-    ∷ (not_held if not (held p slot))
-    ∷ (other_owner if not_owner mode slot owner m p)
-    ∷ (no_owner if eqb owner 0)
-    ∷ (shared_slot if is_in_registry n p.registry slot)
+    (Settings if not (slots_in_limits n))
+    ∷ (ShortMemory if (short_slots n m p || ltb (length p.registry) n))
+    ∷ (SlotNumber if leb n slot)
+    ∷ (NotHeld if not (held p slot))
+    ∷ (OtherOwner if not_owner mode slot owner m p)
+    ∷ (NoOwner if eqb owner 0)
+    ∷ (SharedSlot if is_in_registry n p.registry slot)
     ∷ []
 
 -- The slot is emptied, and no longer held here.
@@ -55,14 +53,14 @@ releases_slot mode slot m p = record { answer = ok; stores = empty_slot mode slo
 unfoldable pub unregister_reader : ℕ → SharedWalOwnershipMode → ℕ → ℕ → Call
 unregister_reader n mode slot owner = unless (release_tests n mode slot owner) (releases_slot mode slot)
 
--- what each case of the answers tells
-abbrev pub update_answer : ℕ → ℕ → ℕ → Update → Answer
-update_answer slot owner mark Moved = slot_taken slot owner mark
-update_answer slot owner mark (NotMoved k) = refused k
+-- what the answers tell
+abbrev pub update_answer : ℕ → ℕ → ℕ → Result ⊤ Refusal → Answer
+update_answer slot owner mark (Ok x) = slot_taken slot owner mark
+update_answer slot owner mark (Err r) = refused (number r)
 
-abbrev pub release_answer : Release → Answer
-release_answer Released = ok
-release_answer (NotReleased k) = refused k
+abbrev pub release_answer : Result ⊤ Refusal → Answer
+release_answer (Ok x) = ok
+release_answer (Err r) = refused (number r)
 
 -- A call by any process whose registry has so many records, with the slot in it or not. A move is on any memory with the
 -- slot frames f and the slot owners o in it: it answers a, leaves the slot frames f', and changes nothing else.

@@ -1,33 +1,22 @@
 // update_reader, a move of a reader to another mark, and unregister_reader, the release of its slot. Both are turned away
 // from a slot of the registry of shared marks. The registry itself is not lent here: a caller says how many records it
 // has, and whether one of its first n is in use for the slot.
-ghost use Rattle.std.specs.Prelude.{◌≡◌, not, ◌&&◌, ◌||◌, ◌/◌, ◌<◌, eqb, length, set};
+ghost use Rattle.std.specs.Prelude.{◌≡◌, not, ◌&&◌, ◌||◌, [], ◌∷◌, eqb, set};
 ghost use Rattle.wal_types.specs.Store.{apply};
 ghost use Rattle.wal_types.specs.Settings.{is_fcntl};
 ghost use Rattle.reader_slots.specs.Slots.{empty_slot};
-ghost use Rattle.reader_slots.specs.Inner.{SlotsBecome};
+ghost use Rattle.reader_slots.specs.Inner.{HoldSlot, SlotsBecome};
 ghost use Rattle.reader_moves.specs.Update.{update_reader, update_answer, MoveCall, unregister_reader, release_answer, ReleaseCall};
 
 use reader_slots::slots;
-use wal_types::{SharedOwnerRecord, SharedWalOwnershipMode, UNOWNED_LOCK, refusal};
-
-// Moved: the slot has the mark. Refused changes nothing.
-#[derive(Clone, Copy)]
-pub enum Update {
-    Moved,
-    Refused(u32),
-}
-
-// Released: the slot is empty. Refused changes nothing.
-#[derive(Clone, Copy)]
-pub enum Release {
-    Released,
-    Refused(u32),
-}
+use reader_slots::slots::SlotLens;
+use wal_types::refusal::Refusal;
+use wal_types::{SharedOwnerRecord, SharedWalOwnershipMode, UNOWNED_LOCK};
 
 // Moves a reader to another mark. The registry is not lent: the contract holds for every registry that has registry_len
 // records and, in its first n, one in use for the slot if in_registry says so, and only then. Of arguments that fit no
 // registry (in_registry with a registry_len of 0) it says nothing.
+#[tactic(auto, using(crate::proofs::Released::move_shared, crate::proofs::Released::move_done, crate::proofs::Released::move_stays), unfolding(crate::specs::Update::update_reader))]
 pub fn update_core(
     n: usize,
     reader_frames: &mut [u64],
@@ -37,43 +26,30 @@ pub fn update_core(
     mark: u64,
     in_registry: bool,
     registry_len: usize,
-) -> Update
+) -> Result<(), Refusal>
     ensures { MoveCall n slot in_registry registry_len (update_reader n slot owner.0 mark) reader_frames.old reader_owners.now (update_answer slot owner.0 mark result) reader_frames.new }
 {
-    if n < 1 {
-        return Update::Refused(refusal::SETTINGS);
+    if n < 1 || 256 < n {
+        return Err(Refusal::Settings);
     }
-    if 256 < n {
-        return Update::Refused(refusal::SETTINGS);
-    }
-    if reader_frames.len() < n {
-        return Update::Refused(refusal::SHORT_MEMORY);
-    }
-    if reader_owners.len() < n {
-        return Update::Refused(refusal::SHORT_MEMORY);
-    }
-    if registry_len < n {
-        return Update::Refused(refusal::SHORT_MEMORY);
+    if reader_frames.len() < n || reader_owners.len() < n || registry_len < n {
+        return Err(Refusal::ShortMemory);
     }
     if n <= slot {
-        return Update::Refused(refusal::SLOT_NUMBER);
+        return Err(Refusal::SlotNumber);
     }
     if owner.0 != reader_owners[slot] {
-        return Update::Refused(refusal::OTHER_OWNER);
+        return Err(Refusal::OtherOwner);
     }
-    let by_reader = slots::reader_refusal(owner, mark);
-    if by_reader != 0 {
-        return Update::Refused(by_reader);
-    }
+    slots::check_reader(owner, mark)?;
     if in_registry {
-        return Update::Refused(refusal::SHARED_SLOT);
+        return Err(Refusal::SharedSlot);
     }
     // A reader that has the mark already is left as it is: no store.
-    if reader_frames[slot] == mark {
-        return Update::Moved;
+    if reader_frames[slot] != mark {
+        reader_frames[slot] = mark;
     }
-    reader_frames[slot] = mark;
-    Update::Moved
+    Ok(())
 }
 
 // Whether a release is by another than the slot's owner. LinuxOfd does not compare the local one.
@@ -85,13 +61,7 @@ pub fn by_other_owner(
 ) -> bool
     ensures { result ≡ (not (eqb owner.0 shared_owner.0) || (is_fcntl mode && not (eqb owner.0 local_owner.0))) }
 {
-    if owner.0 != shared_owner.0 {
-        return true;
-    }
-    match mode {
-        SharedWalOwnershipMode::LinuxOfd => false,
-        SharedWalOwnershipMode::ProcessScopedFcntl => owner.0 != local_owner.0,
-    }
+    owner != shared_owner || (mode.is_fcntl() && owner != local_owner)
 }
 
 // Empties a slot that is held here.
@@ -103,7 +73,7 @@ pub fn release_slot(
     local_readers: &mut [u64],
     slot: usize,
 )
-    requires { (slot / 64 < length bitmap.old) × ((slot < length reader_frames.old) × ((slot < length reader_owners.old) × (slot < length local_readers.old))) }
+    requires { HoldSlot slot bitmap.old (reader_frames.old ∷ reader_owners.old ∷ local_readers.old ∷ []) }
     ensures { SlotsBecome (λ m p. apply (empty_slot mode slot m) m) bitmap.old reader_frames.old reader_owners.old local_readers.old bitmap.new reader_frames.new reader_owners.new × (local_readers.new ≡ set local_readers.old slot 0) }
 {
     slots::empty_slot(mode, bitmap, reader_frames, reader_owners, slot);
@@ -112,6 +82,7 @@ pub fn release_slot(
 
 // Releases a reader's slot. As in update_core, the contract holds for every registry that in_registry and registry_len
 // fit, and says nothing of arguments that fit none.
+#[tactic(auto, using(reader_slots::proofs::Calls::registry_enough, crate::proofs::Released::release_slot_number, crate::proofs::Released::release_not_held, crate::proofs::Released::release_other_owner, crate::proofs::Released::release_no_owner, crate::proofs::Released::release_shared))]
 pub fn unregister_core(
     n: usize,
     mode: SharedWalOwnershipMode,
@@ -123,39 +94,27 @@ pub fn unregister_core(
     owner: SharedOwnerRecord,
     in_registry: bool,
     registry_len: usize,
-) -> Release
+) -> Result<(), Refusal>
     ensures { ReleaseCall n slot in_registry registry_len (unregister_reader n mode slot owner.0) bitmap.old reader_frames.old reader_owners.old local_readers.old (release_answer result) bitmap.new reader_frames.new reader_owners.new local_readers.new }
 {
-    let early = slots::registry_refusal(
-        n,
-        bitmap.len(),
-        reader_frames.len(),
-        reader_owners.len(),
-        local_readers.len(),
-        registry_len,
-    );
-    if early != 0 {
-        return Release::Refused(early);
-    }
+    let lens = SlotLens::of(bitmap, reader_frames, reader_owners, local_readers);
+    slots::check_registry(n, lens, registry_len)?;
     if n <= slot {
-        return Release::Refused(refusal::SLOT_NUMBER);
+        return Err(Refusal::SlotNumber);
     }
-    if local_readers[slot] == UNOWNED_LOCK {
-        return Release::Refused(refusal::NOT_HELD);
+    let shared_owner = SharedOwnerRecord(reader_owners[slot]);
+    let local_owner = SharedOwnerRecord(local_readers[slot]);
+    if local_owner.0 == UNOWNED_LOCK {
+        return Err(Refusal::NotHeld);
     }
-    if by_other_owner(
-        mode,
-        owner,
-        SharedOwnerRecord(reader_owners[slot]),
-        SharedOwnerRecord(local_readers[slot]),
-    ) {
-        return Release::Refused(refusal::OTHER_OWNER);
+    if by_other_owner(mode, owner, shared_owner, local_owner) {
+        return Err(Refusal::OtherOwner);
     }
     if owner.0 == UNOWNED_LOCK {
-        return Release::Refused(refusal::NO_OWNER);
+        return Err(Refusal::NoOwner);
     }
     if in_registry {
-        return Release::Refused(refusal::SHARED_SLOT);
+        return Err(Refusal::SharedSlot);
     }
     release_slot(
         mode,
@@ -165,5 +124,5 @@ pub fn unregister_core(
         local_readers,
         slot,
     );
-    Release::Released
+    Ok(())
 }

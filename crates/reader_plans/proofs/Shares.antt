@@ -1,77 +1,61 @@
 -- A shared registration: its refusals, a mark already shared, and a new one. Assumes nothing.
 use mathlib.Core.Path.{◌≡◌, refl, sym, ap, ◌∙◌}
-use mathlib.Core.Bool.{Bool, true, false, ◌&&◌}
-use mathlib.Core.List.{List, [], ◌∷◌}
-use Prim.Native.Nat.{ℕ, ◌<◌, ◌≤◌, min}
+use mathlib.Core.Bool.{Bool, true, false, not, ◌&&◌, cond}
+use mathlib.Core.List.{List, [], ◌∷◌, ◌++◌}
+use Prim.Native.Nat.{ℕ, ◌^◌, ◌<◌, ◌≤◌, min}
 use native.Mathlib.Omega.{arith}
 use lib.Dec.{leb}
-use lib.ListN.{length, get_or, length-set}
-use lib.Seq.{set_out}
+use lib.ListN.{length, get_or}
+use Rattle.std.specs.Prelude.{Option, Some, None, is_some, is_none, Result, Ok, Err}
 use Rattle.wal_types.specs.declared.SharedReadMark.{SharedReadMark}
 use Rattle.wal_types.specs.declared.SharedWalOwnershipMode.{SharedWalOwnershipMode}
 use Rattle.wal_types.specs.Settings.{most_holders}
 use Rattle.wal_types.specs.Memory.{Memory, Process, no_mark, blank_memory, blank_process}
-use Rattle.wal_types.specs.Refusal.{Test, ◌if◌, lowest, registry_full, card}
-use Rattle.wal_types.specs.Call.{Answer, none, Done, after, done}
-use Rattle.reader_slots.specs.declared.slots.Slot.{Slot}
-use Rattle.reader_slots.specs.declared.slots.Slot.TheVariants.{At as SlotAt, Nothing as NoSlot}
+use Rattle.wal_types.specs.declared.refusal.Refusal.{Refusal}
+use Rattle.wal_types.specs.Refusal.{Test, ◌if◌, lowest, number}
+use Rattle.wal_types.specs.declared.refusal.Refusal.TheVariants.{RegistryFull}
+use Rattle.wal_types.specs.Call.{none, Done, after, done}
+use Rattle.wal_types.proofs.Refusals.{number_not_zero, call_turned_away, call_accepted}
 use Rattle.reader_slots.specs.Slots.{is_bad_card, slots_in}
-use Rattle.reader_slots.specs.Search.{found_slot}
-use Rattle.reader_slots.proofs.Calls.{refuses, accepts, lowest_first, lowest_rest, Enough}
-use Rattle.reader_register.specs.declared.register.Register.{Register}
-use Rattle.reader_register.specs.declared.register.Register.TheVariants.{Taken, NoSlot as Turned, Refused as Denied}
-use Rattle.reader_register.specs.Register.{slot_answer, chosen_slot, register_answer}
+use Rattle.reader_slots.specs.Inner.{HoldSlots, lens_of, card_refusal, card_tests}
+use Rattle.reader_slots.proofs.Calls.{none_applies, lowest_first, lowest_rest, Enough}
+use Rattle.reader_slots.proofs.Card.{card_length}
+use Rattle.reader_register.specs.Register.{slot_answer, chosen_slot}
 use Rattle.reader_register.specs.Inner.{chosen_by, RegistersCall}
 use Rattle.reader_register.proofs.Registered.{chosen_below, chosen_is, takes_none}
-use Rattle.reader_marks.specs.declared.Record.{Record}
-use Rattle.reader_marks.specs.declared.Record.TheVariants.{At, Nothing}
 use Rattle.reader_marks.specs.declared.Seen.{Seen}
+use Rattle.reader_marks.specs.declared.Seen.TheVariants.{Shared, New}
 use Rattle.reader_marks.specs.Registry.{record_of, empty_record}
-use Rattle.reader_marks.specs.InnerChange.{one_more_below, first_held, retained, published}
-use Rattle.reader_marks.specs.InnerScan.{item_at, seen_of}
-use Rattle.reader_shared.specs.declared.shared.Share.{Share}
+use Rattle.reader_marks.specs.InnerScan.{seen_of}
 use Rattle.reader_shared.specs.declared.shared.SharePlan.{SharePlan}
-use Rattle.reader_shared.specs.declared.shared.Share.TheVariants.{NoSlot as NotTaken, Refused as NotShared}
-use Rattle.reader_shared.specs.Shared.{no_record, no_room, share_tests, new_record, shares, register_reader_for_snapshot, share_answer, registry_in}
-use Rattle.reader_shared.specs.Inner.{shares_nothing, shares_joined, shares_published, no_record_answer, four_tests, share_refusal, PlanCall, PlanCarried}
+use Rattle.reader_shared.specs.Shared.{no_room, share_tests, new_record, shares, register_reader_for_snapshot, share_answer, registry_in}
+use Rattle.reader_shared.specs.Inner.{shares_joined, shares_published, share_change, room_refusal, four_tests, share_refusal, PlanCall, PlanCarried}
 use Rattle.reader_shared.proofs.Refused.{share_room}
+use Rattle.reader_plans.proofs.Seen.{placed, unplaced}
 
--- the slot that register_checked has answered is the one chosen
-abbrev slot_of : Register → Slot
-slot_of (Taken i) = SlotAt i
-slot_of Turned = NoSlot
-slot_of (Denied k) = NoSlot
+-- the slot that is told is the one chosen
+told : (owner mark : ℕ) (c d : Option ℕ) → slot_answer owner mark c ≡ slot_answer owner mark d → c ≡ d
+told owner mark (Some i) (Some j) e = let z : i ≡ j = cc in rw z
+told owner mark (Some i) None e = cc
+told owner mark None (Some j) e = cc
+told owner mark None None e = refl
 
-told : (owner mark : ℕ) (c : Slot) (x : Register) → slot_answer owner mark c ≡ register_answer owner mark x → c ≡ slot_of x
-told owner mark (SlotAt j) (Taken i) e = let z : j ≡ i = cc in rw z
-told owner mark (SlotAt j) Turned e = let z : ◌≡◌ {A = ℕ} 0 1 = cc in absurd (omega arith)
-told owner mark (SlotAt j) (Denied k) e = let z : ◌≡◌ {A = ℕ} 0 1 = cc in absurd (omega arith)
-told owner mark NoSlot (Taken i) e = let z : ◌≡◌ {A = ℕ} 0 1 = cc in absurd (omega arith)
-told owner mark NoSlot Turned e = refl
-told owner mark NoSlot (Denied k) e = refl
+-- where none of the refusals 1, 2, 9, 10 and 14 applies, each list has its cells
+pub enough : (n owner mark : ℕ) (bytes b f o l : List ℕ) (records : ℕ) → 0 ≡ share_refusal n (lens_of b f o l) records owner mark → 0 ≡ card_refusal n bytes → HoldSlots n b (f ∷ o ∷ l ∷ bytes ∷ [])
+unfolding card_refusal
+enough n owner mark bytes b f o l records fine card =
+    let h = (share_room n (lens_of b f o l) records owner mark fine).0 in
+    let c = card_length n bytes (none_applies (card_tests n bytes) (sym card)).0 in
+    (h.most, h.words_enough, (h.frames_enough, (h.owners_enough, (h.locals_enough, (omega arith, tt)))))
 
--- what is seen of the first n records, where there are so many
-pub seen_parts : (n : ℕ) (r : List SharedReadMark) (mark : ℕ) (seen : Seen) → seen ≡ seen_of (min n (length r)) r mark → n ≤ length r → (record_of n r mark ≡ seen.place) × ((item_at r (record_of n r mark) ≡ seen.item) × (record_of n r mark ≡ Nothing → empty_record n r ≡ seen.empty))
-unfolding seen_of
-seen_parts n r mark seen e l = let q : min n (length r) ≡ n = omega arith in rw (e, q) (refl, (refl, λ x. rw x))
-
-module _ (n : ℕ) (mode : SharedWalOwnershipMode) (owner mark : ℕ) (bytes b f o l : List ℕ) (records : ℕ) (seen : Seen) (k : ℕ) (e : k ≡ share_refusal n (length b) (length f) (length o) (length l) records owner mark) where
+module _ (n : ℕ) (mode : SharedWalOwnershipMode) (owner mark : ℕ) (bytes b f o l : List ℕ) (records : ℕ) (seen : Seen) where
   -- the call does what the plan says
-  abbrev Means : List ℕ → List ℕ → List ℕ → List ℕ → SharePlan → Type 0
-  Means b' f' o' l' plan = PlanCall n mark seen records (register_reader_for_snapshot n mode owner mark bytes) b f o l (share_answer plan.answer) b' f' o' l' (λ r. published plan.published mark plan.slot (record { 0 = owner }) (retained plan.retained r))
+  abbrev Means : List ℕ → List ℕ → List ℕ → List ℕ → Result (Option SharePlan) Refusal → Type 0
+  Means b' f' o' l' plan = PlanCall n mark seen records (register_reader_for_snapshot n mode owner mark bytes) b f o l (share_answer plan) b' f' o' l' (share_change plan)
 
-  -- past the end nothing is retained, and nothing published
-  none_retained : (r : List SharedReadMark) → records ≡ length r → retained records r ≡ r
-  none_retained r q = set_out r records (one_more_below (get_or r records no_mark)) (omega arith)
-
-  none_published : (slot : ℕ) (r : List SharedReadMark) → records ≡ length r → published records mark slot (record { 0 = owner }) r ≡ r
-  none_published slot r q = set_out r records (first_held mark slot (record { 0 = owner })) (omega arith)
-
-  unchanged : (slot : ℕ) (r : List SharedReadMark) → records ≡ length r → published records mark slot (record { 0 = owner }) (retained records r) ≡ r
-  unchanged slot r q = ap (published records mark slot (record { 0 = owner })) (none_retained r q) ∙ none_published slot r q
-
-  still_as_long : (i : ℕ) (r : List SharedReadMark) → records ≡ length r → records ≡ length (retained i r)
-  still_as_long i r q = q ∙ sym (length-set r i (one_more_below (get_or r i no_mark)))
+  -- a registry that fits what was seen
+  abbrev Fits : List SharedReadMark → Type 0
+  Fits r = (seen ≡ seen_of (min n (length r)) r mark) × (records ≡ length r)
 
   -- a process and memory with these parts
   abbrev memory : Memory → Memory
@@ -80,125 +64,122 @@ module _ (n : ℕ) (mode : SharedWalOwnershipMode) (owner mark : ℕ) (bytes b f
   abbrev process : Process → List SharedReadMark → Process
   process p r = registry_in p l r
 
-  abbrev full : Memory → Process → List SharedReadMark → Bool
-  full z p r = no_room n mode bytes (memory z) (process p r) (record_of n r mark)
-
-  abbrev number : Memory → Process → List SharedReadMark → ℕ
-  number z p r = lowest (share_tests n mode owner mark bytes (memory z) (process p r))
+  abbrev number_given : Memory → Process → List SharedReadMark → ℕ
+  number_given z p r = lowest (share_tests n mode owner mark bytes (memory z) (process p r))
 
   -- the tests after the first four
   abbrev last_tests : Memory → Process → List SharedReadMark → List Test
-  last_tests z p r = (registry_full if full z p r) ∷ (card if is_bad_card n bytes) ∷ []
+  last_tests z p r = (RegistryFull if no_room n mode bytes (memory z) (process p r) (record_of n r mark)) ∷ card_tests n bytes
 
-  first_refused : (k ≡ 0 → ⊥) → (z : Memory) (p : Process) (r : List SharedReadMark) → records ≡ length r → number z p r ≡ k
-  unfolding share_refusal
-  first_refused x z p r q = lowest_first (four_tests n (length b) (length f) (length o) (length l) (length r) owner mark) (last_tests z p r) k (rw (← q) e) x
-
-  refused_as : (j : ℕ) → ((z : Memory) (p : Process) (r : List SharedReadMark) → seen ≡ seen_of (min n (length r)) r mark → records ≡ length r → number z p r ≡ j) → (j ≡ 0 → ⊥) → Means b f o l (shares_nothing records (NotShared j))
+  refused_as : (k : Refusal) → ((z : Memory) (p : Process) (r : List SharedReadMark) → Fits r → number_given z p r ≡ number k) → Means b f o l (Err k)
   unfolding PlanCarried register_reader_for_snapshot
-  refused_as j h x r s q z p =
-      rw (unchanged 0 r q)
-      (refuses (share_tests n mode owner mark bytes) (λ m p. shares n mode owner mark bytes (record_of n p.registry mark) m p) (memory z) (process p r) j (h z p r s q) x)
+  refused_as k h r s q z p =
+      call_turned_away (share_tests n mode owner mark bytes) (λ m p. shares n mode owner mark bytes (record_of n p.registry mark) m p) (memory z) (process p r) k (sym (h z p r (s, q)))
 
   -- refusals 1, 2, 9 and 10
-  pub share_refused : (k ≡ 0 → ⊥) → (plan : SharePlan) → plan ≡ shares_nothing records (NotShared k) → Means b f o l plan
-  share_refused x plan made = rw made (refused_as k (λ z p r s q. first_refused x z p r q) x)
+  pub share_refused : (k : Refusal) → number k ≡ share_refusal n (lens_of b f o l) records owner mark → Means b f o l (Err k)
+  unfolding share_refusal
+  share_refused k e = refused_as k (λ z p r s. lowest_first (four_tests n (lens_of b f o l) (length r) owner mark) (last_tests z p r) k (rw (← s.1) e))
 
-  module _ (fine : k ≡ 0) where
-    room : Enough n (length b) (length f) (length o) (length l) × (n ≤ records)
-    room = share_room n (length b) (length f) (length o) (length l) records owner mark k e fine
+  module _ (fine : 0 ≡ share_refusal n (lens_of b f o l) records owner mark) where
+    room : Enough n (lens_of b f o l) × (n ≤ records)
+    room = share_room n (lens_of b f o l) records owner mark fine
 
-    later : (z : Memory) (p : Process) (r : List SharedReadMark) → records ≡ length r → number z p r ≡ lowest (last_tests z p r)
+    later : (z : Memory) (p : Process) (r : List SharedReadMark) → records ≡ length r → number_given z p r ≡ lowest (last_tests z p r)
     unfolding share_refusal
-    later z p r q = lowest_rest (four_tests n (length b) (length f) (length o) (length l) (length r) owner mark) (last_tests z p r) k (rw (← q) e) fine
+    later z p r q = lowest_rest (four_tests n (lens_of b f o l) (length r) owner mark) (last_tests z p r) (rw (← q) fine)
 
-    parts : (r : List SharedReadMark) → seen ≡ seen_of (min n (length r)) r mark → records ≡ length r → (record_of n r mark ≡ seen.place) × ((item_at r (record_of n r mark) ≡ seen.item) × (record_of n r mark ≡ Nothing → empty_record n r ≡ seen.empty))
-    parts r s q = seen_parts n r mark seen s (let z = room.1 in omega arith)
+    -- the call that is not refused
+    made : (z : Memory) (p : Process) (r : List SharedReadMark) → records ≡ length r → lowest (last_tests z p r) ≡ 0 →
+        after (register_reader_for_snapshot n mode owner mark bytes) (memory z) (process p r) ≡ after (shares n mode owner mark bytes (record_of n r mark)) (memory z) (process p r)
+    unfolding register_reader_for_snapshot
+    made z p r q x =
+        call_accepted (share_tests n mode owner mark bytes) (λ m p. shares n mode owner mark bytes (record_of n p.registry mark) m p) (memory z) (process p r) (later z p r q ∙ x)
 
     -- a mark already shared, in the record at this place
-    module _ (at : ℕ) (found : seen.place ≡ At at) where
-      placed : (r : List SharedReadMark) → seen ≡ seen_of (min n (length r)) r mark → records ≡ length r → (record_of n r mark ≡ At at) × (get_or r at no_mark ≡ seen.item)
-      placed r s q = let w = parts r s q in (w.0 ∙ found, ap (item_at r) (sym (w.0 ∙ found)) ∙ w.1.0)
+    module _ (place : ℕ) (item : SharedReadMark) (found : seen ≡ Shared place item) where
+      here : (r : List SharedReadMark) → Fits r → (record_of n r mark ≡ Some place) × (get_or r place no_mark ≡ item)
+      here r s = placed n r mark (let long = room.1 in let same = s.1 in omega arith) place item (sym found ∙ s.0)
 
-      joined : (t u : Bool) → leb most_holders seen.item.holders ≡ t → is_bad_card n bytes ≡ u → Means b f o l (shares_joined records at seen.item mark u)
-      unfolding PlanCarried register_reader_for_snapshot shares_joined
-      joined true u x y = rw x (refused_as 13 (λ z p r s q. later z p r q ∙ rw ((placed r s q).0, (placed r s q).1, x)) (λ q. omega arith))
-      joined false true x y = rw x (refused_as 14 (λ z p r s q. later z p r q ∙ rw ((placed r s q).0, (placed r s q).1, x, y)) (λ q. omega arith))
-      joined false false x y =
-          rw x
-          (λ r s q z p.
-          rw (none_published 0 (retained at r) (still_as_long at r q))
-          (accepts (share_tests n mode owner mark bytes) (λ m p. shares n mode owner mark bytes (record_of n p.registry mark) m p) (memory z) (process p r) (later z p r q ∙ rw ((placed r s q).0, (placed r s q).1, x, y))
-          ∙ rw ((placed r s q).0, (placed r s q).1, x)))
+      abbrev room_tests : List Test
+      room_tests = (RegistryFull if leb most_holders item.holders) ∷ []
 
-      pub share_joins : (bad : Bool) → bad ≡ is_bad_card n bytes → (plan : SharePlan) → plan ≡ shares_joined records at seen.item mark bad → Means b f o l plan
-      share_joins bad x plan made = rw (made, x) (joined (leb most_holders seen.item.holders) (is_bad_card n bytes) refl refl)
+      its_tests : (z : Memory) (p : Process) (r : List SharedReadMark) → Fits r → lowest (last_tests z p r) ≡ lowest (room_tests ++ card_tests n bytes)
+      its_tests z p r s = rw ((here r s).0, (here r s).1)
+
+      pub joined_full : (k : Refusal) → number k ≡ room_refusal item → Means b f o l (Err k)
+      joined_full k e = refused_as k (λ z p r s. later z p r s.1 ∙ (its_tests z p r s ∙ lowest_first room_tests (card_tests n bytes) k e))
+
+      module _ (fits : 0 ≡ room_refusal item) where
+        pub joined_card : (k : Refusal) → number k ≡ card_refusal n bytes → Means b f o l (Err k)
+        unfolding card_refusal
+        joined_card k e = refused_as k (λ z p r s. later z p r s.1 ∙ (its_tests z p r s ∙ (lowest_rest room_tests (card_tests n bytes) fits ∙ sym e)))
+
+        pub joined : 0 ≡ card_refusal n bytes → Means b f o l (Ok (Some (shares_joined place item mark)))
+        unfolding PlanCarried card_refusal
+        joined e r s q z p =
+            let below = (none_applies room_tests (sym fits)).0 in
+            made z p r q (its_tests z p r (s, q) ∙ (lowest_rest room_tests (card_tests n bytes) fits ∙ sym e))
+            ∙ rw ((here r (s, q)).0, (here r (s, q)).1, below)
 
     -- a new mark
-    module _ (new : seen.place ≡ Nothing) where
-      unplaced : (r : List SharedReadMark) → seen ≡ seen_of (min n (length r)) r mark → records ≡ length r → (record_of n r mark ≡ Nothing) × (empty_record n r ≡ seen.empty)
-      unplaced r s q = let w = parts r s q in (w.0 ∙ new, w.1.1 (w.0 ∙ new))
+    module _ (free : Option ℕ) (new : seen ≡ New free) where
+      absent : (r : List SharedReadMark) → Fits r → (record_of n r mark ≡ None) × (empty_record n r ≡ free)
+      absent r s = unplaced n r mark (let long = room.1 in let same = s.1 in omega arith) free (sym new ∙ s.0)
 
-      pub new_bad_card : is_bad_card n bytes ≡ true → (plan : SharePlan) → plan ≡ shares_nothing records (NotShared 14) → Means b f o l plan
-      new_bad_card x plan made = rw made (refused_as 14 (λ z p r s q. later z p r q ∙ rw ((unplaced r s q).0, x)) (λ q. omega arith))
+      pub new_card : (k : Refusal) → number k ≡ card_refusal n bytes → Means b f o l (Err k)
+      unfolding card_refusal
+      new_card k e = refused_as k (λ z p r s. later z p r s.1 ∙ rw (absent r s).0 (go (is_bad_card n bytes) (is_some (chosen_slot n mode bytes (memory z) (process p r))) (is_none (empty_record n r)) e))
+        where
+          go : (t u v : Bool) → number k ≡ cond t 14 0 → cond (not t && u && v) 13 (cond t 14 0) ≡ number k
+          go true u v g = sym g
+          go false u v g = absurd (number_not_zero k g)
 
-      module _ (good : is_bad_card n bytes ≡ false) where
-        -- the call that is not refused
-        made : (z : Memory) (p : Process) (r : List SharedReadMark) → seen ≡ seen_of (min n (length r)) r mark → records ≡ length r → full z p r ≡ false →
-            after (register_reader_for_snapshot n mode owner mark bytes) (memory z) (process p r) ≡ after (shares n mode owner mark bytes Nothing) (memory z) (process p r)
-        unfolding register_reader_for_snapshot
-        made z p r s q x =
-            accepts (share_tests n mode owner mark bytes) (λ m p. shares n mode owner mark bytes (record_of n p.registry mark) m p) (memory z) (process p r) (later z p r q ∙ rw (x, good))
-            ∙ rw (unplaced r s q).0
+      module _ (card : 0 ≡ card_refusal n bytes) where
+        good : is_bad_card n bytes ≡ false
+        unfolding card_refusal
+        good = (none_applies (card_tests n bytes) (sym card)).0
 
-        abbrev chosen : Slot
+        abbrev chosen : Option ℕ
         chosen = chosen_by n mode bytes b o l
 
         chosen_here : (z : Memory) (p : Process) (r : List SharedReadMark) → chosen_slot n mode bytes (memory z) (process p r) ≡ chosen
         chosen_here z p r = chosen_is n mode bytes b o l room.0.words_enough f z (process p r)
 
         -- the call does what register_checked does, and publishes the record
-        module _ (a : Answer) (b' f' o' l' : List ℕ) (does : RegistersCall n mode owner mark bytes b f o l a b' f' o' l') where
-          same_answer : slot_answer owner mark chosen ≡ a
+        module _ (taken : Option ℕ) (b' f' o' l' : List ℕ) (does : RegistersCall n mode owner mark bytes b f o l (slot_answer owner mark taken) b' f' o' l') where
+          chosen_taken : chosen ≡ taken
           unfolding RegistersCall
-          same_answer = ap (slot_answer owner mark) (sym (chosen_here blank_memory blank_process [])) ∙ ap (λ (d : Done). d.answer) (does blank_memory (process blank_process []))
+          chosen_taken = told owner mark chosen taken (ap (slot_answer owner mark) (sym (chosen_here blank_memory blank_process [])) ∙ ap (λ (d : Done). d.answer) (does blank_memory (process blank_process [])))
 
-          does_both : (c : Slot) → chosen ≡ c → (free : Record) → seen.empty ≡ free → (found_slot c && no_record free) ≡ false → (z : Memory) (p : Process) (r : List SharedReadMark) → seen ≡ seen_of (min n (length r)) r mark → records ≡ length r →
-              after (register_reader_for_snapshot n mode owner mark bytes) (memory z) (process p r) ≡ done (slot_answer owner mark c) (slots_in z b' f' o') (new_record owner mark c free (registry_in p l' r))
+          does_both : (is_some taken && is_none free) ≡ false → (z : Memory) (p : Process) (r : List SharedReadMark) → Fits r →
+              after (register_reader_for_snapshot n mode owner mark bytes) (memory z) (process p r) ≡ done (slot_answer owner mark taken) (slots_in z b' f' o') (new_record owner mark taken free (registry_in p l' r))
           unfolding RegistersCall
-          does_both c ec free ef x z p r s q =
+          does_both x z p r s =
               let d = does z (process p r) in
-              made z p r s q (rw ((unplaced r s q).0, good, chosen_here z p r, ec, (unplaced r s q).1, ef) x)
-              ∙ rw (ap (λ (d : Done). d.memory) d, ap (λ (d : Done). d.process) d, chosen_here z p r, ec, (unplaced r s q).1, ef)
+              made z p r s.1 (rw ((absent r s).0, good, chosen_here z p r, chosen_taken, (absent r s).1, x))
+              ∙ rw ((absent r s).0, ap (λ (d : Done). d.memory) d, ap (λ (d : Done). d.process) d, chosen_here z p r, chosen_taken, (absent r s).1)
 
-          not_taken : chosen ≡ NoSlot → Means b' f' o' l' (shares_nothing records NotTaken)
-          unfolding PlanCarried
-          not_taken x r s q z p = rw (unchanged 0 r q) (does_both NoSlot x seen.empty refl refl z p r s q)
+        nothing : (b' f' o' l' : List ℕ) → RegistersCall n mode owner mark bytes b f o l none b' f' o' l' → Means b' f' o' l' (Ok None)
+        unfolding PlanCarried
+        nothing b' f' o' l' does r s q z p = does_both None b' f' o' l' does refl z p r (s, q)
 
         -- no record is empty: the call is refused if a slot could be taken
-        module _ (none_empty : seen.empty ≡ Nothing) where
-          by_choice : (c : Slot) → chosen ≡ c → Means b f o l (shares_nothing records (no_record_answer (found_slot c)))
-          by_choice (SlotAt i) x = refused_as 13 (λ z p r s q. later z p r q ∙ rw ((unplaced r s q).0, good, chosen_here z p r, x, (unplaced r s q).1, none_empty)) (λ q. omega arith)
-          by_choice NoSlot x = not_taken none b f o l (takes_none n mode owner mark bytes b f o l room.0.words_enough x) x
-
-          pub new_without_record : (takes : Bool) → takes ≡ found_slot chosen → (answer : Share) → answer ≡ no_record_answer takes → (plan : SharePlan) → plan ≡ shares_nothing records answer → Means b f o l plan
-          new_without_record takes x answer y plan is = rw (is, y, x) (by_choice chosen refl)
+        pub without_record : free ≡ None → (takes : Bool) → takes ≡ is_some chosen → (plan : Result (Option SharePlan) Refusal) → plan ≡ cond takes (Err RegistryFull) (Ok None) → Means b f o l plan
+        without_record none_empty takes t plan e = rw (e, t) (go chosen refl)
+          where
+            go : (c : Option ℕ) → chosen ≡ c → Means b f o l (cond (is_some c) (Err RegistryFull) (Ok None))
+            go (Some i) x = refused_as RegistryFull (λ z p r s. later z p r s.1 ∙ rw ((absent r s).0, good, chosen_here z p r, x, (absent r s).1, none_empty))
+            go None x = nothing b f o l (takes_none n mode owner mark bytes b f o l room.0.words_enough x)
 
         -- register_checked has answered
-        module _ (b' f' o' l' : List ℕ) (x : Register) (does : RegistersCall n mode owner mark bytes b f o l (register_answer owner mark x) b' f' o' l') where
-          slot_told : chosen ≡ slot_of x
-          slot_told = told owner mark chosen x (same_answer (register_answer owner mark x) b' f' o' l' does)
+        module _ (taken : Option ℕ) (b' f' o' l' : List ℕ) (does : RegistersCall n mode owner mark bytes b f o l (slot_answer owner mark taken) b' f' o' l') where
+          pub none_taken : taken ≡ None → Means b' f' o' l' (Ok None)
+          none_taken x = nothing b' f' o' l' (rw x at does)
 
-          pub taken_below : (slot : ℕ) → x ≡ Taken slot → slot < n
-          taken_below slot y = chosen_below n mode bytes b o l slot (slot_told ∙ ap slot_of y)
+          pub slot_fits : (slot : ℕ) → taken ≡ Some slot → slot < 2 ^ 32
+          slot_fits slot x = let small = chosen_below n mode bytes b o l slot (chosen_taken taken b' f' o' l' does ∙ x) in let most = room.0.most in omega arith
 
-          module _ (free : ℕ) (empty : seen.empty ≡ At free) where
-            by_answer : (y : Register) → x ≡ y → Means b' f' o' l' (shares_published records free y (record { 0 = owner }) mark)
-            unfolding PlanCarried shares_published
-            by_answer (Taken slot) e =
-                λ r s q z p. rw (none_retained r q) (does_both (register_answer owner mark x) b' f' o' l' does (SlotAt slot) (slot_told ∙ ap slot_of e) (At free) empty refl z p r s q)
-            by_answer Turned e = not_taken (register_answer owner mark x) b' f' o' l' does (slot_told ∙ ap slot_of e)
-            by_answer (Denied k) e = not_taken (register_answer owner mark x) b' f' o' l' does (slot_told ∙ ap slot_of e)
-
-            pub new_registered : (plan : SharePlan) → plan ≡ shares_published records free x (record { 0 = owner }) mark → Means b' f' o' l' plan
-            new_registered plan is = rw is (by_answer x refl)
+          pub published : (slot : ℕ) → taken ≡ Some slot → (place : ℕ) → free ≡ Some place → Means b' f' o' l' (Ok (Some (shares_published place slot (record { 0 = owner }) mark)))
+          unfolding PlanCarried
+          published slot x place e r s q z p = does_both (Some slot) b' f' o' l' (rw x at does) (rw e) z p r (s, q) ∙ rw e

@@ -1,18 +1,18 @@
 // A shared registration and a shared release, by what is seen of the registry.
 #![tactic(auto)]
 
-ghost use Rattle.reader_moves.specs.Update.{release_answer};
-ghost use Rattle.reader_marks.specs.InnerChange.{retained, published, released};
-ghost use Rattle.reader_shared.specs.Shared.{register_reader_for_snapshot, unregister_reader_for_snapshot, share_answer};
-ghost use Rattle.reader_shared.specs.Inner.{PlanCall};
+ghost use Rattle.reader_shared.specs.Shared.{register_reader_for_snapshot, unregister_reader_for_snapshot, share_answer, unshare_answer};
+ghost use Rattle.reader_shared.specs.Inner.{share_change, unshare_change, PlanCall};
 
-use reader_marks::{Record, Seen};
+use reader_marks::Seen;
 use reader_moves::update;
 use reader_register::register;
 use reader_shared::shared;
-use reader_shared::shared::{Share, SharePlan, UnsharePlan};
+use reader_shared::shared::SharePlan;
 use reader_slots::slots;
-use wal_types::{SharedOwnerRecord, SharedWalOwnershipMode, refusal};
+use reader_slots::slots::SlotLens;
+use wal_types::refusal::Refusal;
+use wal_types::{SharedOwnerRecord, SharedWalOwnershipMode};
 
 // A shared registration, but for what it does to the registry. The registry is not lent: the contract holds for every
 // registry with so many records in whose first n a scan for the mark sees what seen has. Of arguments that fit no
@@ -29,40 +29,32 @@ pub fn share_plan(
     card: &[u8],
     owner: SharedOwnerRecord,
     mark: u64,
-) -> SharePlan
-    ensures { PlanCall n mark seen records (register_reader_for_snapshot n mode owner.0 mark card.now) bitmap.old reader_frames.old reader_owners.old local_readers.old (share_answer result.answer) bitmap.new reader_frames.new reader_owners.new local_readers.new (λ registry. published result.published mark result.slot owner (retained result.retained registry)) }
+) -> Result<Option<SharePlan>, Refusal>
+    ensures { PlanCall n mark seen records (register_reader_for_snapshot n mode owner.0 mark card.now) bitmap.old reader_frames.old reader_owners.old local_readers.old (share_answer result) bitmap.new reader_frames.new reader_owners.new local_readers.new (share_change result) }
 {
-    let place = seen.place;
-    let item = seen.item;
-    let empty = seen.empty;
-    let refused = shared::share_refusal(
-        n,
-        bitmap.len(),
-        reader_frames.len(),
-        reader_owners.len(),
-        local_readers.len(),
-        records,
-        owner,
-        mark,
-    );
-    if refused != 0 {
-        let answer = Share::Refused(refused);
-        return shared::share_nothing(records, answer);
-    }
-    let bad_card = slots::bad_card(n, card);
-    if let Record::At(found) = place {
-        return shared::share_joined(records, found, item, mark, bad_card);
-    }
-    if bad_card {
-        let answer = Share::Refused(refusal::CARD);
-        return shared::share_nothing(records, answer);
-    }
-    let Record::At(free) = empty else {
-        let takes = register::could_take(n, mode, bitmap, reader_owners, local_readers, card);
-        let answer = shared::without_record(takes);
-        return shared::share_nothing(records, answer);
+    let lens = SlotLens {
+        bitmap: bitmap.len(),
+        reader_frames: reader_frames.len(),
+        reader_owners: reader_owners.len(),
+        local_readers: local_readers.len(),
     };
-    let registered = register::register_checked(
+    shared::check_share(n, lens, records, owner, mark)?;
+    // Looked at once for both cases, so that its loop stands once in the code; 13 goes before 14.
+    let card_refusal = slots::check_card(n, card);
+    let free = match seen {
+        Seen::Shared { place, item } => {
+            shared::check_room(item)?;
+            card_refusal?;
+            return Ok(Some(shared::share_joined(place, item, mark)));
+        }
+        Seen::New { free } => free,
+    };
+    card_refusal?;
+    let Some(free) = free else {
+        let takes = register::could_take(n, mode, bitmap, reader_owners, local_readers, card);
+        return shared::without_record(takes);
+    };
+    let Some(slot) = register::register_checked(
         n,
         mode,
         bitmap,
@@ -72,12 +64,14 @@ pub fn share_plan(
         card,
         owner,
         mark,
-    );
-    shared::share_published(records, free, registered, owner, mark)
+    ) else {
+        return Ok(None);
+    };
+    Ok(Some(shared::share_published(free, slot, owner, mark)))
 }
 
-// A shared release, but for what it does to the registry. As in share_plan, the contract holds for every registry that
-// seen and records fit, and says nothing of arguments that fit none.
+// A shared release, but for what it does to the registry: the place of the record that it releases. As in share_plan, the
+// contract holds for every registry that seen and records fit, and says nothing of arguments that fit none.
 pub fn unshare_plan(
     n: usize,
     mode: SharedWalOwnershipMode,
@@ -90,32 +84,26 @@ pub fn unshare_plan(
     mark: u64,
     slot: usize,
     owner: SharedOwnerRecord,
-) -> UnsharePlan
-    ensures { PlanCall n mark seen records (unregister_reader_for_snapshot n mode mark slot owner.0) bitmap.old reader_frames.old reader_owners.old local_readers.old (release_answer result.answer) bitmap.new reader_frames.new reader_owners.new local_readers.new (released result.released) }
+) -> Result<usize, Refusal>
+    ensures { PlanCall n mark seen records (unregister_reader_for_snapshot n mode mark slot owner.0) bitmap.old reader_frames.old reader_owners.old local_readers.old (unshare_answer result) bitmap.new reader_frames.new reader_owners.new local_readers.new (unshare_change result) }
 {
-    let place = seen.place;
-    let item = seen.item;
-    let early = slots::registry_refusal(
-        n,
-        bitmap.len(),
-        reader_frames.len(),
-        reader_owners.len(),
-        local_readers.len(),
-        records,
-    );
-    if early != 0 {
-        return shared::release_refused(records, early);
-    }
+    let lens = SlotLens {
+        bitmap: bitmap.len(),
+        reader_frames: reader_frames.len(),
+        reader_owners: reader_owners.len(),
+        local_readers: local_readers.len(),
+    };
+    slots::check_registry(n, lens, records)?;
     if n <= slot {
-        return shared::release_refused(records, refusal::SLOT_NUMBER);
+        return Err(Refusal::SlotNumber);
     }
-    let Record::At(found) = place else {
-        let absent = shared::mark_refusal(owner, mark, false);
-        return shared::release_refused(records, absent);
+    let Seen::Shared { place, item } = seen else {
+        slots::check_reader(owner, mark)?;
+        return Err(Refusal::NoSuchMark);
     };
     let registered = shared::is_registered(item, slot, owner);
     let frees = shared::frees_slot(registered, item);
-    let refused = shared::unshare_refusal(
+    shared::check_unshare(
         mode,
         registered,
         frees,
@@ -123,10 +111,7 @@ pub fn unshare_plan(
         mark,
         SharedOwnerRecord(reader_owners[slot]),
         SharedOwnerRecord(local_readers[slot]),
-    );
-    if refused != 0 {
-        return shared::release_refused(records, refused);
-    }
+    )?;
     if frees {
         update::release_slot(
             mode,
@@ -136,7 +121,6 @@ pub fn unshare_plan(
             local_readers,
             slot,
         );
-        return shared::release_made(found);
     }
-    shared::release_made(found)
+    Ok(place)
 }

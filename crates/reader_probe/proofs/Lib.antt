@@ -1,3 +1,2 @@
--- Laws of the look for a failed probe, and of marks.
+-- Laws of the look for a failed probe.
 pub mod Looked
-pub mod Marks

@@ -1,14 +1,13 @@
 -- Words for the contracts of the inner functions: the calls' tests, over single cells and lists. No contract of a call cites
 -- them. Assumes nothing.
-use Rattle.std.specs.Prelude.{Bool, true, false, not, ◌&&◌, ◌||◌, List, [], ◌∷◌, ℕ, eqb, get_or}
+use Rattle.std.specs.Prelude.{Option, Some, None, Bool, true, false, not, ◌&&◌, ◌||◌, List, [], ◌∷◌, ◌++◌, ℕ, eqb, get_or}
 use Rattle.wal_types.specs.declared.SharedWalOwnershipMode.{SharedWalOwnershipMode}
 use Rattle.wal_types.specs.Settings.{unused, is_fcntl}
-use Rattle.wal_types.specs.Refusal.{◌if◌, lowest, card, probe}
-use Rattle.reader_slots.specs.Slots.{is_bad_card}
+use Rattle.wal_types.specs.Refusal.{Test, ◌if◌, lowest}
+use Rattle.wal_types.specs.declared.refusal.Refusal.TheVariants.{Probe}
+use Rattle.reader_slots.specs.Inner.{card_tests}
 use Rattle.reader_slots.specs.Search.{some_slot}
 use Rattle.reader_probe.specs.declared.live.LiveMarks.{LiveMarks}
-use Rattle.reader_probe.specs.declared.live.LiveFrame.{LiveFrame}
-use Rattle.reader_probe.specs.declared.live.LiveFrame.TheVariants.{Frame, NotLive}
 use Rattle.reader_probe.specs.Live.{lower_floor}
 
 -- the floor's tests of a slot, by its frame, owner, local owner and card byte alone
@@ -30,17 +29,17 @@ abbrev pub live_by : SharedWalOwnershipMode → List ℕ → List ℕ → List �
 live_by mode bytes f o l i = live_cell mode (get_or f i unused) (get_or o i 0) (get_or l i 0) (get_or bytes i 0)
 
 -- a live slot's mark, or none; and the marks so far with it
-abbrev pub live_frame : Bool → ℕ → LiveFrame
-live_frame true frame = Frame frame
-live_frame false frame = NotLive
+abbrev pub live_frame : Bool → ℕ → Option ℕ
+live_frame true frame = Some frame
+live_frame false frame = None
 
-abbrev pub is_db_file : LiveFrame → Bool
-is_db_file (Frame frame) = eqb frame 0
-is_db_file NotLive = false
+abbrev pub is_db_file : Option ℕ → Bool
+is_db_file (Some frame) = eqb frame 0
+is_db_file None = false
 
-abbrev pub marks_with : LiveMarks → LiveFrame → LiveMarks
-marks_with so_far (Frame frame) = record { floor = lower_floor so_far.floor frame; db_file_reader = eqb frame 0 || so_far.db_file_reader }
-marks_with so_far NotLive = so_far
+abbrev pub marks_with : LiveMarks → Option ℕ → LiveMarks
+marks_with so_far (Some frame) = record { floor = lower_floor so_far.floor frame; db_file_reader = eqb frame 0 || so_far.db_file_reader }
+marks_with so_far None = so_far
 
 -- a live slot of mark 0 whose probe does not fail, by its cells and by lists; and without the probe
 abbrev pub db_file_cell : SharedWalOwnershipMode → ℕ → ℕ → ℕ → ℕ → Bool
@@ -53,7 +52,9 @@ db_file_by mode bytes f o l i = db_file_cell mode (get_or f i unused) (get_or o 
 abbrev pub live_db_file_by : SharedWalOwnershipMode → List ℕ → List ℕ → List ℕ → List ℕ → ℕ → Bool
 live_db_file_by mode bytes f o l i = live_by mode bytes f o l i && eqb (get_or f i unused) 0
 
--- refusal 14 or 15 of a call that probes so many slots, 0 for neither
+-- the number of refusal 14 or 15 of a call that probes so many slots, 0 for neither
+abbrev pub probe_tests_by : ℕ → SharedWalOwnershipMode → List ℕ → List ℕ → List ℕ → List ℕ → ℕ → List Test
+probe_tests_by n mode bytes f o l looked = card_tests n bytes ++ ((Probe if some_slot (failed_by mode bytes f o l) looked 0) ∷ [])
+
 unfoldable pub probe_refusal : ℕ → SharedWalOwnershipMode → List ℕ → List ℕ → List ℕ → List ℕ → ℕ → ℕ
-probe_refusal n mode bytes f o l looked =
-    lowest ((card if is_bad_card n bytes) ∷ (probe if some_slot (failed_by mode bytes f o l) looked 0) ∷ [])
+probe_refusal n mode bytes f o l looked = lowest (probe_tests_by n mode bytes f o l looked)

@@ -1,13 +1,9 @@
 -- Slots as the calls that look at every reader meet them (document 01, "Floor"). Assumes nothing.
-use Rattle.std.specs.Prelude.{Bool, not, ◌&&◌, ◌||◌, cond, List, ℕ, min, eqb, get_or}
+use Rattle.std.specs.Prelude.{Option, Some, None, unwrap_or, Bool, not, ◌&&◌, ◌||◌, cond, List, ℕ, min, eqb, get_or}
 use Rattle.wal_types.specs.declared.SharedWalOwnershipMode.{SharedWalOwnershipMode}
 use Rattle.wal_types.specs.Settings.{unused, is_fcntl}
 use Rattle.wal_types.specs.Memory.{Memory, Process}
-use Rattle.reader_slots.specs.declared.slots.Slot.{Slot}
-use Rattle.reader_slots.specs.declared.slots.Slot.TheVariants.{At, Nothing}
 use Rattle.reader_slots.specs.Slots.{held, granted, failed}
-use Rattle.reader_probe.specs.declared.live.Floor.{Floor}
-use Rattle.reader_probe.specs.declared.live.Floor.TheVariants.{Mark, NoMark}
 
 -- a slot that is skipped: frame UNUSED, or in Fcntl owner 0
 abbrev pub skipped : SharedWalOwnershipMode → Memory → ℕ → Bool
@@ -27,11 +23,10 @@ abbrev pub probe_failed : SharedWalOwnershipMode → List ℕ → Process → Me
 probe_failed mode bytes p m i = not (is_fcntl mode) && not (skipped mode m i) && not (held p i) && failed bytes i
 
 -- the lesser of a floor and a mark; mark 0 is a database file reader and never the floor
-abbrev pub lower_floor : Floor → ℕ → Floor
-lower_floor (Mark f) mark = cond (eqb mark 0) (Mark f) (Mark (min f mark))
-lower_floor NoMark mark = cond (eqb mark 0) NoMark (Mark mark)
+abbrev pub lower_floor : Option ℕ → ℕ → Option ℕ
+lower_floor (Some f) mark = cond (eqb mark 0) (Some f) (Some (min f mark))
+lower_floor None mark = cond (eqb mark 0) None (Some mark)
 
 -- how many slots a search looks at before the one that it finds
-abbrev pub looked_at : ℕ → Slot → ℕ
-looked_at n (At i) = i
-looked_at n Nothing = n
+abbrev pub looked_at : ℕ → Option ℕ → ℕ
+looked_at n found = unwrap_or found n

@@ -1,33 +1,66 @@
 // Probes that failed (refusal 15), looked for before anything is reclaimed, with the card's own refusal 14.
-ghost use Rattle.std.specs.Prelude.{◌≡◌, ◌≤◌, length};
+ghost use Rattle.std.specs.Prelude.{◌≡◌, [], ◌∷◌, suc, ◌≤◌, get_or};
+ghost use Rattle.wal_types.specs.Refusal.{refused_number};
 ghost use Rattle.reader_slots.specs.Search.{lowest_slot, some_slot};
+ghost use Rattle.reader_slots.specs.Inner.{AllHold};
 ghost use Rattle.reader_probe.specs.Live.{looked_at};
 ghost use Rattle.reader_probe.specs.Inner.{failed_cell, db_file_cell, failed_by, db_file_by, probe_refusal};
 
 use crate::live;
 use reader_slots::slots;
-use wal_types::{DB_FILE_READER_FRAME, SharedOwnerRecord, SharedWalOwnershipMode, refusal};
+use wal_types::refusal::Refusal;
+use wal_types::{DB_FILE_READER_FRAME, SharedOwnerRecord, SharedWalOwnershipMode, UNOWNED_LOCK};
 
-// A slot whose holder could not be told: in LinuxOfd mode an error of its byte lock.
-fn is_failed(
-    mode: SharedWalOwnershipMode,
+// A slot's cells, with its byte of the card.
+#[derive(Clone, Copy)]
+struct Probed {
     frame: u64,
     owner: SharedOwnerRecord,
     local_owner: SharedOwnerRecord,
     card: u8,
-) -> bool
-    ensures { result ≡ failed_cell mode frame owner.0 local_owner.0 card }
-{
-    if slots::is_fcntl(mode) {
-        return false;
+}
+
+impl Probed {
+    fn of(
+        slot: usize,
+        reader_frames: &[u64],
+        reader_owners: &[u64],
+        local_readers: &[u64],
+        card: &[u8],
+    ) -> Self
+        requires { AllHold (suc slot) (reader_frames.now ∷ reader_owners.now ∷ local_readers.now ∷ card.now ∷ []) }
+        ensures frame { result.frame ≡ get_or reader_frames.now slot 0 }
+        ensures owner { result.owner.0 ≡ get_or reader_owners.now slot 0 }
+        ensures local_owner { result.local_owner.0 ≡ get_or local_readers.now slot 0 }
+        ensures card { result.card ≡ get_or card.now slot 0 }
+    {
+        Probed {
+            frame: reader_frames[slot],
+            owner: SharedOwnerRecord(reader_owners[slot]),
+            local_owner: SharedOwnerRecord(local_readers[slot]),
+            card: card[slot],
+        }
     }
-    if live::is_skipped(mode, frame, owner) {
-        return false;
+
+    // The holder could not be told: in LinuxOfd mode an error of its byte lock.
+    fn is_failed(self, mode: SharedWalOwnershipMode) -> bool
+        ensures { result ≡ failed_cell mode self.frame self.owner.0 self.local_owner.0 self.card }
+    {
+        !mode.is_fcntl()
+            && !live::is_skipped(mode, self.frame, self.owner)
+            && self.local_owner.0 == UNOWNED_LOCK
+            && self.card == 2
     }
-    if local_owner.0 != 0 {
-        return false;
+
+    // Live and of mark 0, and its probe does not fail.
+    fn is_db_file(self, mode: SharedWalOwnershipMode) -> bool
+        ensures { result ≡ db_file_cell mode self.frame self.owner.0 self.local_owner.0 self.card }
+    {
+        !live::is_skipped(mode, self.frame, self.owner)
+            && (self.local_owner.0 != UNOWNED_LOCK || self.card != 1)
+            && !self.is_failed(mode)
+            && self.frame == DB_FILE_READER_FRAME
     }
-    card == 2
 }
 
 // Whether the probe of one of the first slots fails.
@@ -39,125 +72,71 @@ fn some_probe_failed(
     local_readers: &[u64],
     card: &[u8],
 ) -> bool
-    requires { (looked ≤ 256) × ((looked ≤ length reader_frames.now) × ((looked ≤ length reader_owners.now) × ((looked ≤ length local_readers.now) × (looked ≤ length card.now)))) }
+    requires { (looked ≤ 256) × AllHold looked (reader_frames.now ∷ reader_owners.now ∷ local_readers.now ∷ card.now ∷ []) }
     ensures { result ≡ some_slot (failed_by mode card.now reader_frames.now reader_owners.now local_readers.now) looked 0 }
 {
-    for slot in 0..looked {
-        if is_failed(
-            mode,
-            reader_frames[slot],
-            SharedOwnerRecord(reader_owners[slot]),
-            SharedOwnerRecord(local_readers[slot]),
-            card[slot],
-        ) {
-            return true;
-        }
-    }
-    false
+    (0..looked).any(|slot| {
+        Probed::of(slot, reader_frames, reader_owners, local_readers, card).is_failed(mode)
+    })
 }
 
-// A live slot of mark 0 whose probe does not fail.
-fn is_db_file_slot(
-    mode: SharedWalOwnershipMode,
-    frame: u64,
-    owner: SharedOwnerRecord,
-    local_owner: SharedOwnerRecord,
-    card: u8,
-) -> bool
-    ensures { result ≡ db_file_cell mode frame owner.0 local_owner.0 card }
-{
-    if live::is_skipped(mode, frame, owner) {
-        return false;
-    }
-    if is_failed(mode, frame, owner, local_owner, card) {
-        return false;
-    }
-    if frame != DB_FILE_READER_FRAME {
-        return false;
-    }
-    if local_owner.0 != 0 {
-        return true;
-    }
-    card != 1
-}
-
-// How many slots has_active_db_file_reader looks at: those before the first live one of mark 0.
-fn slots_looked_at(
+// The first live slot of mark 0 whose probe does not fail. has_active_db_file_reader looks at the slots before it, or at all.
+fn db_file_slot(
     n: usize,
     mode: SharedWalOwnershipMode,
     reader_frames: &[u64],
     reader_owners: &[u64],
     local_readers: &[u64],
     card: &[u8],
-) -> usize
-    requires { (n ≤ 256) × ((n ≤ length reader_frames.now) × ((n ≤ length reader_owners.now) × ((n ≤ length local_readers.now) × (length card.now ≡ n)))) }
-    ensures { (result ≡ looked_at n (lowest_slot (db_file_by mode card.now reader_frames.now reader_owners.now local_readers.now) n 0)) × (result ≤ n) }
+) -> Option<usize>
+    requires { (n ≤ 256) × AllHold n (reader_frames.now ∷ reader_owners.now ∷ local_readers.now ∷ card.now ∷ []) }
+    ensures { result ≡ lowest_slot (db_file_by mode card.now reader_frames.now reader_owners.now local_readers.now) n 0 }
 {
-    for slot in 0..n {
-        if is_db_file_slot(
-            mode,
-            reader_frames[slot],
-            SharedOwnerRecord(reader_owners[slot]),
-            SharedOwnerRecord(local_readers[slot]),
-            card[slot],
-        ) {
-            return slot;
-        }
-    }
-    n
+    (0..n).find(|&slot| {
+        Probed::of(slot, reader_frames, reader_owners, local_readers, card).is_db_file(mode)
+    })
 }
 
-// Refusal 14 or 15 of the floor; 0 for neither. Only a card with an error byte has slots looked at.
-pub fn floor_refusal(
+// Refusal 14 or 15 of the floor. Only a card with an error byte has slots looked at. The lists stay parameters: of a struct
+// of slices each contract would name every field.
+#[tactic(auto, using(reader_slots::proofs::Card::card_fits, crate::proofs::Looked::refused_by_card, crate::proofs::Looked::no_error_byte, crate::proofs::Looked::look_fails, crate::proofs::Looked::look_passes))]
+pub fn check_floor(
     n: usize,
     mode: SharedWalOwnershipMode,
     reader_frames: &[u64],
     reader_owners: &[u64],
     local_readers: &[u64],
     card: &[u8],
-) -> u32
-    requires { (n ≤ 256) × ((n ≤ length reader_frames.now) × ((n ≤ length reader_owners.now) × (n ≤ length local_readers.now))) }
-    ensures { result ≡ probe_refusal n mode card.now reader_frames.now reader_owners.now local_readers.now n }
+) -> Result<(), Refusal>
+    requires { (n ≤ 256) × AllHold n (reader_frames.now ∷ reader_owners.now ∷ local_readers.now ∷ []) }
+    ensures { refused_number result ≡ probe_refusal n mode card.now reader_frames.now reader_owners.now local_readers.now n }
 {
-    if card.len() != n {
-        return refusal::CARD;
+    if slots::card_has_error(n, card)?
+        && some_probe_failed(n, mode, reader_frames, reader_owners, local_readers, card)
+    {
+        return Err(Refusal::Probe);
     }
-    let greatest = slots::greatest_byte(card);
-    if 2 < greatest {
-        return refusal::CARD;
-    }
-    if greatest < 2 {
-        return 0;
-    }
-    if some_probe_failed(n, mode, reader_frames, reader_owners, local_readers, card) {
-        return refusal::PROBE;
-    }
-    0
+    Ok(())
 }
 
 // The same of has_active_db_file_reader.
-pub fn db_file_refusal(
+#[tactic(auto, using(reader_slots::proofs::Card::card_fits, crate::proofs::Looked::refused_by_card, crate::proofs::Looked::no_error_byte, crate::proofs::Looked::look_fails, crate::proofs::Looked::look_passes))]
+pub fn check_db_file(
     n: usize,
     mode: SharedWalOwnershipMode,
     reader_frames: &[u64],
     reader_owners: &[u64],
     local_readers: &[u64],
     card: &[u8],
-) -> u32
-    requires { (n ≤ 256) × ((n ≤ length reader_frames.now) × ((n ≤ length reader_owners.now) × (n ≤ length local_readers.now))) }
-    ensures { result ≡ probe_refusal n mode card.now reader_frames.now reader_owners.now local_readers.now (looked_at n (lowest_slot (db_file_by mode card.now reader_frames.now reader_owners.now local_readers.now) n 0)) }
+) -> Result<(), Refusal>
+    requires { (n ≤ 256) × AllHold n (reader_frames.now ∷ reader_owners.now ∷ local_readers.now ∷ []) }
+    ensures { refused_number result ≡ probe_refusal n mode card.now reader_frames.now reader_owners.now local_readers.now (looked_at n (lowest_slot (db_file_by mode card.now reader_frames.now reader_owners.now local_readers.now) n 0)) }
 {
-    if card.len() != n {
-        return refusal::CARD;
+    if !slots::card_has_error(n, card)? {
+        return Ok(());
     }
-    let greatest = slots::greatest_byte(card);
-    if 2 < greatest {
-        return refusal::CARD;
-    }
-    if greatest < 2 {
-        return 0;
-    }
-    let looked = slots_looked_at(n, mode, reader_frames, reader_owners, local_readers, card);
+    let first = db_file_slot(n, mode, reader_frames, reader_owners, local_readers, card);
+    let looked = first.unwrap_or(n);
     if some_probe_failed(
         looked,
         mode,
@@ -166,7 +145,7 @@ pub fn db_file_refusal(
         local_readers,
         card,
     ) {
-        return refusal::PROBE;
+        return Err(Refusal::Probe);
     }
-    0
+    Ok(())
 }

@@ -8,8 +8,7 @@ use Rattle.wal_types.specs.declared.SharedWalOwnershipMode.{SharedWalOwnershipMo
 use Rattle.wal_types.specs.Memory.{Memory, Process}
 use Rattle.wal_types.specs.Store.{apply}
 use Rattle.wal_types.specs.Call.{none, Done, after, done}
-use Rattle.reader_slots.specs.declared.slots.Slot.{Slot}
-use Rattle.reader_slots.specs.declared.slots.Slot.TheVariants.{At, Nothing}
+use Rattle.std.specs.Prelude.{Option, Some, None}
 use Rattle.reader_register.specs.Register.{take_found, slot_answer, hold_found, first_slot, second_slot, chosen_slot, reclaim_unless, register_reader}
 use Rattle.reader_register.proofs.Second.{second_is_stale, nothing_reclaimed}
 use Rattle.reader_register.proofs.Registered.{from_neither}
@@ -19,7 +18,7 @@ module _ (n : ℕ) (mode : SharedWalOwnershipMode) (owner mark : ℕ) (bytes : L
   abbrev reclaimed : Memory
   reclaimed = apply (reclaim_unless n mode bytes p (first_slot n bytes m p) m) m
 
-  reclaims_none : number_given n mode owner mark bytes m p ≡ 0 → chosen_slot n mode bytes m p ≡ Nothing → reclaimed ≡ m
+  reclaims_none : number_given n mode owner mark bytes m p ≡ 0 → chosen_slot n mode bytes m p ≡ None → reclaimed ≡ m
   reclaims_none x e =
       let both = from_neither (first_slot n bytes m p) (second_slot n mode bytes m p) e in
       let enough = room n mode owner mark bytes m p x in
@@ -33,9 +32,9 @@ module _ (n : ℕ) (mode : SharedWalOwnershipMode) (owner mark : ℕ) (bytes : L
   pub none_writes_nothing : (after (register_reader n mode owner mark bytes) m p).answer ≡ none → Same (after (register_reader n mode owner mark bytes) m p)
   none_writes_nothing e = go (ℕ_discrete (number_given n mode owner mark bytes m p) 0)
     where
-      found : number_given n mode owner mark bytes m p ≡ 0 → (s : Slot) → chosen_slot n mode bytes m p ≡ s → slot_answer owner mark s ≡ none → Same (done (slot_answer owner mark s) (apply (take_found owner mark s reclaimed) reclaimed) (hold_found owner p s))
-      found x (At i) c f = let z : ◌≡◌ {A = ℕ} 0 1 = cc in absurd (omega arith)
-      found x Nothing c f = (reclaims_none x c, refl)
+      found : number_given n mode owner mark bytes m p ≡ 0 → (s : Option ℕ) → chosen_slot n mode bytes m p ≡ s → slot_answer owner mark s ≡ none → Same (done (slot_answer owner mark s) (apply (take_found owner mark s reclaimed) reclaimed) (hold_found owner p s))
+      found x (Some i) c f = cc
+      found x None c f = (reclaims_none x c, refl)
 
       go : Dec (number_given n mode owner mark bytes m p ≡ 0) → Same (after (register_reader n mode owner mark bytes) m p)
       go (yes x) =

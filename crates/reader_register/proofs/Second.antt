@@ -12,8 +12,7 @@ use Rattle.wal_types.specs.declared.SharedWalOwnershipMode.{SharedWalOwnershipMo
 use Rattle.wal_types.specs.Settings.{is_fcntl}
 use Rattle.wal_types.specs.Memory.{Memory, Process, slot_bit}
 use Rattle.wal_types.specs.Store.{apply}
-use Rattle.reader_slots.specs.declared.slots.Slot.{Slot}
-use Rattle.reader_slots.specs.declared.slots.Slot.TheVariants.{At, Nothing}
+use Rattle.std.specs.Prelude.{Option, Some, None}
 use Rattle.reader_slots.specs.Slots.{held, is_free, granted, empty_slots}
 use Rattle.reader_slots.specs.Search.{lowest_slot}
 use Rattle.reader_slots.proofs.Emptied.{stores_nothing, starts_at}
@@ -24,16 +23,16 @@ use Rattle.reader_register.specs.Register.{available, reclaimable, reclaim_all, 
 -- a stale slot, once free, can be taken
 pub stale_then_free : (f h g w f' : Bool) → (not f && not h && g && w) ≡ true → f' ≡ true → (not h && f' && g) ≡ true
 stale_then_free false false true w f' e q = rw q
-stale_then_free true h g w f' e q = let z : ◌≡◌ {A = Bool} false true = e in let y : ◌≡◌ {A = ℕ} 0 1 = cc in absurd (omega arith)
-stale_then_free false true g w f' e q = let z : ◌≡◌ {A = Bool} false true = e in let y : ◌≡◌ {A = ℕ} 0 1 = cc in absurd (omega arith)
-stale_then_free false false false w f' e q = let z : ◌≡◌ {A = Bool} false true = e in let y : ◌≡◌ {A = ℕ} 0 1 = cc in absurd (omega arith)
+stale_then_free true h g w f' e q = let z : ◌≡◌ {A = Bool} false true = e in cc
+stale_then_free false true g w f' e q = let z : ◌≡◌ {A = Bool} false true = e in cc
+stale_then_free false false false w f' e q = let z : ◌≡◌ {A = Bool} false true = e in cc
 
 module _ (n : ℕ) (mode : SharedWalOwnershipMode) (bytes : List ℕ) (m : Memory) (p : Process) where
   abbrev stale : Memory → ℕ → Bool
   stale = reclaimable mode bytes p
 
   -- the lowest stale slot, in the memory before the call
-  abbrev pub stale_slot : Slot
+  abbrev pub stale_slot : Option ℕ
   stale_slot = lowest_slot (stale m) n 0
 
   -- a slot is as stale in two memories with the same cells for it
@@ -41,14 +40,14 @@ module _ (n : ℕ) (mode : SharedWalOwnershipMode) (bytes : List ℕ) (m : Memor
   by_cells j x x' s = rw (s.bit_same, s.owner_same 0)
 
   -- where none is stale, the reclaim stores nothing
-  pub nothing_reclaimed : stale_slot ≡ Nothing → reclaim_all n mode bytes p m ≡ []
+  pub nothing_reclaimed : stale_slot ≡ None → reclaim_all n mode bytes p m ≡ []
   nothing_reclaimed e = stores_nothing mode stale n 0 m (lowest_nothing (stale m) n 0 e)
 
   -- and where one is, it starts at the lowest
-  pub reclaimed_from : (i : ℕ) → stale_slot ≡ At i → reclaim_all n mode bytes p m ≡ empty_slots mode stale (n - i) i m
+  pub reclaimed_from : (i : ℕ) → stale_slot ≡ Some i → reclaim_all n mode bytes p m ≡ empty_slots mode stale (n - i) i m
   reclaimed_from i e = let b = found_below (stale m) n i e in starts_at mode stale n 0 i (n - i) m (omega arith) (omega arith) (lowest_at (stale m) n 0 i e).1
 
-  module _ (words : (j : ℕ) → j < n → j / 64 < length m.bitmap) (none_free : first_slot n bytes m p ≡ Nothing) where
+  module _ (words : (j : ℕ) → j < n → j / 64 < length m.bitmap) (none_free : first_slot n bytes m p ≡ None) where
     abbrev reclaimed : Memory
     reclaimed = apply (reclaim_all n mode bytes p m) m
 

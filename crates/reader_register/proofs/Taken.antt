@@ -19,12 +19,13 @@ use Rattle.wal_types.specs.Refusal.{lowest}
 use Rattle.wal_types.specs.Call.{refused, slot_taken, accepted_or, Done, after, done}
 use Rattle.word_bits.specs.Bit.{clear_bit}
 use Rattle.word_bits.proofs.Bits.{clear_same}
-use Rattle.reader_slots.specs.declared.slots.Slot.{Slot}
-use Rattle.reader_slots.specs.declared.slots.Slot.TheVariants.{At, Nothing}
+use Rattle.std.specs.Prelude.{Option, Some, None}
 use Rattle.reader_slots.specs.Slots.{held, is_free, granted, take_slot, empty_slot, empty_slots}
 use Rattle.reader_register.specs.Register.{available, take_found, slot_answer, hold_found, first_slot, second_slot, chosen_slot, reclaim_all, reclaimable, reclaim_unless, registers, register_tests, register_reader}
-use Rattle.reader_slots.specs.Inner.{emptied_if}
-use Rattle.reader_slots.proofs.Calls.{apply_append, refuses, accepts, none_applies, Enough, enough_by}
+use Rattle.reader_slots.specs.Inner.{lens_of, emptied_if}
+use Rattle.wal_types.proofs.Stores.{apply_append}
+use Rattle.wal_types.proofs.Refusals.{call_refused, call_accepted}
+use Rattle.reader_slots.proofs.Calls.{none_applies, Enough, enough_by}
 use Rattle.reader_slots.proofs.Lowest.{found_below, lowest_at}
 use Rattle.reader_slots.proofs.Kept.{SlotSame, Aside, aside_same, aside_then, taken_aside}
 use Rattle.reader_register.proofs.Registered.{from_either}
@@ -56,7 +57,7 @@ unheld : (h f g : Bool) → (not h && f && g) ≡ true → h ≡ false
 unheld true f g e = sym e
 unheld false f g e = refl
 
-found_unheld : (n : ℕ) (bytes : List ℕ) (p : Process) (m : Memory) (i : ℕ) → first_slot n bytes m p ≡ At i → (held p i ≡ false) × (i < n)
+found_unheld : (n : ℕ) (bytes : List ℕ) (p : Process) (m : Memory) (i : ℕ) → first_slot n bytes m p ≡ Some i → (held p i ≡ false) × (i < n)
 found_unheld n bytes p m i e = (unheld (held p i) (is_free m i) (granted bytes i) (lowest_at (available bytes p m) n 0 i e).0, found_below (available bytes p m) n i e)
 
 -- What is so of the slot i that register_reader has answered: before it, in the memory m' after it, and in the process p'.
@@ -75,7 +76,7 @@ module _ (n : ℕ) (mode : SharedWalOwnershipMode) (owner mark : ℕ) (bytes : L
   abbrev pub number_given : ℕ
   number_given = lowest (register_tests n owner mark bytes m p)
 
-  abbrev chosen : Slot
+  abbrev chosen : Option ℕ
   chosen = chosen_slot n mode bytes m p
 
   abbrev reclaimed : Memory
@@ -83,16 +84,16 @@ module _ (n : ℕ) (mode : SharedWalOwnershipMode) (owner mark : ℕ) (bytes : L
 
   pub register_refused : (number_given ≡ 0 → ⊥) → after (register_reader n mode owner mark bytes) m p ≡ done (refused number_given) m p
   unfolding register_reader
-  register_refused x = refuses (register_tests n owner mark bytes) (registers n mode owner mark bytes) m p number_given refl x
+  register_refused x = call_refused (register_tests n owner mark bytes) (registers n mode owner mark bytes) m p number_given refl x
 
   pub register_accepted : number_given ≡ 0 → after (register_reader n mode owner mark bytes) m p ≡ done (slot_answer owner mark chosen) (apply (take_found owner mark chosen reclaimed) reclaimed) (hold_found owner p chosen)
   unfolding register_reader
   register_accepted x =
-      accepts (register_tests n owner mark bytes) (registers n mode owner mark bytes) m p x
+      call_accepted (register_tests n owner mark bytes) (registers n mode owner mark bytes) m p x
       ∙ rw (apply_append (reclaim_unless n mode bytes p (first_slot n bytes m p) m) (take_found owner mark chosen reclaimed) m)
 
   -- the slot chosen is not held here
-  pub chosen_unheld : (i : ℕ) → chosen ≡ At i → (held p i ≡ false) × (i < n)
+  pub chosen_unheld : (i : ℕ) → chosen ≡ Some i → (held p i ≡ false) × (i < n)
   chosen_unheld i e =
       elim (from_either (first_slot n bytes m p) (second_slot n mode bytes m p) i e) [
         | inl q ↦ found_unheld n bytes p m i q
@@ -102,18 +103,18 @@ module _ (n : ℕ) (mode : SharedWalOwnershipMode) (owner mark : ℕ) (bytes : L
   reclaimed_lengths : SameLengths m reclaimed
   reclaimed_lengths = go (first_slot n bytes m p)
     where
-      go : (s : Slot) → SameLengths m (apply (reclaim_unless n mode bytes p s m) m)
-      go (At i) = record { words_same = refl; frames_same = refl; owners_same = refl }
-      go Nothing = all_emptied_lengths mode (reclaimable mode bytes p) n 0 m
+      go : (s : Option ℕ) → SameLengths m (apply (reclaim_unless n mode bytes p s m) m)
+      go (Some i) = record { words_same = refl; frames_same = refl; owners_same = refl }
+      go None = all_emptied_lengths mode (reclaimable mode bytes p) n 0 m
 
   -- an accepted call has its cells
-  pub room : number_given ≡ 0 → Enough n (length m.bitmap) (length m.reader_frames) (length m.reader_owners) (length p.local_readers)
+  pub room : number_given ≡ 0 → Enough n (lens_of m.bitmap m.reader_frames m.reader_owners p.local_readers)
   room x =
       let t = none_applies (register_tests n owner mark bytes m p) x in
-      enough_by n (length m.bitmap) (length m.reader_frames) (length m.reader_owners) (length p.local_readers) t.0 t.1.0
+      enough_by n (lens_of m.bitmap m.reader_frames m.reader_owners p.local_readers) t.0 t.1.0
 
   -- a slot that is answered
-  took : (x : number_given ≡ 0) (i : ℕ) → chosen ≡ At i → TookSlot n owner mark i p (apply (take_slot i owner mark reclaimed) reclaimed) (hold_found owner p (At i))
+  took : (x : number_given ≡ 0) (i : ℕ) → chosen ≡ Some i → TookSlot n owner mark i p (apply (take_slot i owner mark reclaimed) reclaimed) (hold_found owner p (Some i))
   took x i e =
       let a = chosen_unheld i e in
       let b = room x in
@@ -132,7 +133,7 @@ module _ (n : ℕ) (mode : SharedWalOwnershipMode) (owner mark : ℕ) (bytes : L
       }
 
   -- the call, by its slot
-  abbrev with_slot : Slot → Done
+  abbrev with_slot : Option ℕ → Done
   with_slot s = done (slot_answer owner mark s) (apply (take_found owner mark s reclaimed) reclaimed) (hold_found owner p s)
 
   abbrev result : Done
@@ -142,28 +143,28 @@ module _ (n : ℕ) (mode : SharedWalOwnershipMode) (owner mark : ℕ) (bytes : L
   pub register_took : (i o k : ℕ) → result.answer ≡ slot_taken i o k → (o ≡ owner) × ((k ≡ mark) × TookSlot n owner mark i p result.memory result.process)
   register_took i o k e = go (ℕ_discrete number_given 0)
     where
-      found : (x : number_given ≡ 0) (s : Slot) → chosen ≡ s → slot_answer owner mark s ≡ slot_taken i o k → (o ≡ owner) × ((k ≡ mark) × TookSlot n owner mark i p result.memory result.process)
-      found x (At j) c f =
+      found : (x : number_given ≡ 0) (s : Option ℕ) → chosen ≡ s → slot_answer owner mark s ≡ slot_taken i o k → (o ≡ owner) × ((k ≡ mark) × TookSlot n owner mark i p result.memory result.process)
+      found x (Some j) c f =
           let ij : j ≡ i = cc in let oo : o ≡ owner = cc in let kk : k ≡ mark = cc in
-          (oo, (kk, subst (λ (d : Done). TookSlot n owner mark i p d.memory d.process) (sym (register_accepted x ∙ ap with_slot (c ∙ ap At ij))) (took x i (c ∙ ap At ij))))
-      found x Nothing c f = let y : ◌≡◌ {A = ℕ} 0 1 = cc in absurd (omega arith)
+          (oo, (kk, subst (λ (d : Done). TookSlot n owner mark i p d.memory d.process) (sym (register_accepted x ∙ ap with_slot (c ∙ ap Some ij))) (took x i (c ∙ ap Some ij))))
+      found x None c f = cc
 
       go : Dec (number_given ≡ 0) → (o ≡ owner) × ((k ≡ mark) × TookSlot n owner mark i p result.memory result.process)
       go (yes x) = found x chosen refl (sym (ap (λ (d : Done). d.answer) (register_accepted x)) ∙ e)
-      go (no f) = let r : refused number_given ≡ slot_taken i o k = sym (ap (λ (d : Done). d.answer) (register_refused f)) ∙ e in let y : ◌≡◌ {A = ℕ} 0 1 = cc in absurd (omega arith)
+      go (no f) = let r : refused number_given ≡ slot_taken i o k = sym (ap (λ (d : Done). d.answer) (register_refused f)) ∙ e in cc
 
   -- a slot held here is left alone by every store, and keeps its local owner
   module _ (j : ℕ) (here : held p j ≡ true) where
-    differs : (i : ℕ) → chosen ≡ At i → j ≡ i → ⊥
-    differs i c q = let z : ◌≡◌ {A = Bool} true false = sym here ∙ ap (held p) q ∙ (chosen_unheld i c).0 in let y : ◌≡◌ {A = ℕ} 0 1 = cc in omega arith
+    differs : (i : ℕ) → chosen ≡ Some i → j ≡ i → ⊥
+    differs i c q = let z : ◌≡◌ {A = Bool} true false = sym here ∙ ap (held p) q ∙ (chosen_unheld i c).0 in cc
 
-    reclaim_leaves : (s : Slot) → Aside j m (reclaim_unless n mode bytes p s m)
-    reclaim_leaves (At i) = tt
-    reclaim_leaves Nothing = reclaim_aside n mode bytes p j here m
+    reclaim_leaves : (s : Option ℕ) → Aside j m (reclaim_unless n mode bytes p s m)
+    reclaim_leaves (Some i) = tt
+    reclaim_leaves None = reclaim_aside n mode bytes p j here m
 
-    take_leaves : (s : Slot) → chosen ≡ s → Aside j reclaimed (take_found owner mark s reclaimed)
-    take_leaves (At i) c = taken_aside i j owner mark reclaimed (differs i c)
-    take_leaves Nothing c = tt
+    take_leaves : (s : Option ℕ) → chosen ≡ s → Aside j reclaimed (take_found owner mark s reclaimed)
+    take_leaves (Some i) c = taken_aside i j owner mark reclaimed (differs i c)
+    take_leaves None c = tt
 
     pub register_aside : Aside j m (register_reader n mode owner mark bytes m p).stores
     unfolding register_reader
@@ -177,9 +178,9 @@ module _ (n : ℕ) (mode : SharedWalOwnershipMode) (owner mark : ℕ) (bytes : L
     unfolding register_reader
     local_kept = go number_given
       where
-        held_still : (s : Slot) → chosen ≡ s → get_or (hold_found owner p s).local_readers j 0 ≡ get_or p.local_readers j 0
-        held_still (At i) c = get_or-set_other p.local_readers i j owner 0 (differs i c)
-        held_still Nothing c = refl
+        held_still : (s : Option ℕ) → chosen ≡ s → get_or (hold_found owner p s).local_readers j 0 ≡ get_or p.local_readers j 0
+        held_still (Some i) c = get_or-set_other p.local_readers i j owner 0 (differs i c)
+        held_still None c = refl
 
         go : (k : ℕ) → get_or (accepted_or k p (registers n mode owner mark bytes m p)).process.local_readers j 0 ≡ get_or p.local_readers j 0
         go zero = held_still chosen refl

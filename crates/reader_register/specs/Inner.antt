@@ -1,33 +1,32 @@
 -- Words for the contracts of the inner functions: the call's tests, over single cells and lists. No contract of a call cites
 -- them. Assumes nothing.
-use Rattle.std.specs.Prelude.{Bool, not, ◌&&◌, List, [], ◌∷◌, ◌++◌, ℕ, eqb, get_or}
+use Rattle.std.specs.Prelude.{Option, Bool, not, ◌&&◌, List, ◌++◌, ℕ, eqb, get_or}
 use Rattle.wal_types.specs.declared.SharedWalOwnershipMode.{SharedWalOwnershipMode}
 use Rattle.wal_types.specs.Settings.{is_fcntl}
 use Rattle.wal_types.specs.Memory.{slot_bit}
-use Rattle.wal_types.specs.Refusal.{◌if◌, lowest, card}
+use Rattle.wal_types.specs.Refusal.{lowest}
 use Rattle.wal_types.specs.Call.{Answer}
-use Rattle.reader_slots.specs.declared.slots.Slot.{Slot}
-use Rattle.reader_slots.specs.Slots.{is_bad_card, ReaderCall}
-use Rattle.reader_slots.specs.Search.{lowest_slot, either_slot}
-use Rattle.reader_slots.specs.Inner.{slots_tests, reader_tests, available_by}
+use Rattle.reader_slots.specs.declared.slots.SlotLens.{SlotLens}
+use Rattle.reader_slots.specs.Slots.{ReaderCall}
+use Rattle.std.specs.Option.{option_or}
+use Rattle.reader_slots.specs.Search.{lowest_slot}
+use Rattle.reader_slots.specs.Inner.{slots_tests, reader_tests, card_tests, available_by}
 use Rattle.reader_register.specs.Register.{registers}
 
--- a slot that is reclaimed, by its cells and by lists
-abbrev pub stale_cell : SharedWalOwnershipMode → ℕ → ℕ → ℕ → ℕ → Bool
-stale_cell mode bit owner local byte = not (eqb bit 1) && not (not (eqb local 0)) && eqb byte 1 && not (is_fcntl mode && eqb owner 0)
-
+-- a slot that is reclaimed, by lists
 abbrev pub stale_by : SharedWalOwnershipMode → List ℕ → List ℕ → List ℕ → List ℕ → ℕ → Bool
-stale_by mode bytes b o l i = stale_cell mode (slot_bit b i) (get_or o i 0) (get_or l i 0) (get_or bytes i 0)
+stale_by mode bytes b o l i =
+    not (eqb (slot_bit b i) 1) && not (not (eqb (get_or l i 0) 0)) && eqb (get_or bytes i 0) 1
+    && not (is_fcntl mode && eqb (get_or o i 0) 0)
 
 -- the slot that a registration takes: the lowest one that is free, or else the lowest one that is stale
-unfoldable pub chosen_by : ℕ → SharedWalOwnershipMode → List ℕ → List ℕ → List ℕ → List ℕ → Slot
+unfoldable pub chosen_by : ℕ → SharedWalOwnershipMode → List ℕ → List ℕ → List ℕ → List ℕ → Option ℕ
 chosen_by n mode bytes b o l =
-    either_slot (lowest_slot (available_by b l bytes) n 0) (lowest_slot (stale_by mode bytes b o l) n 0)
+    option_or (lowest_slot (available_by b l bytes) n 0) (lowest_slot (stale_by mode bytes b o l) n 0)
 
 -- the number of the refusal, 0 for none
-unfoldable pub register_refusal : ℕ → ℕ → ℕ → ℕ → ℕ → ℕ → ℕ → List ℕ → ℕ
-register_refusal n words frames owners locals owner mark bytes =
-    lowest (slots_tests n words frames owners locals ++ reader_tests owner mark ++ ((card if is_bad_card n bytes) ∷ []))
+unfoldable pub register_refusal : ℕ → SlotLens → ℕ → ℕ → List ℕ → ℕ
+register_refusal n lens owner mark bytes = lowest (slots_tests n lens ++ reader_tests owner mark ++ card_tests n bytes)
 
 -- register_reader where none of its refusals applies: on any memory with the lists b, f and o in it, by any process with the
 -- local owners l, it answers a, leaves the lists b', f', o' and l', and changes nothing else.

@@ -1,26 +1,19 @@
 // register_reader: a reader takes the lowest slot that it can lock, after a reclaim of stale slots if it must. Which slot
 // that is, and whether there is one, is decided before anything is stored.
-ghost use Rattle.std.specs.Prelude.{◌≡◌, ◌+◌, ◌/◌, ◌<◌, ◌≤◌, length, set};
+ghost use Rattle.std.specs.Prelude.{◌≡◌, [], ◌∷◌, set, is_some};
 ghost use Rattle.wal_types.specs.Store.{apply};
+ghost use Rattle.wal_types.specs.Refusal.{refused_number};
 ghost use Rattle.reader_slots.specs.Slots.{take_slot, ReaderCall};
-ghost use Rattle.reader_slots.specs.declared.slots.Slot.TheVariants.{Nothing};
-ghost use Rattle.reader_slots.specs.Search.{found_slot, lowest_slot};
-ghost use Rattle.reader_slots.specs.Inner.{SlotsBecome, available_by};
-ghost use Rattle.reader_register.specs.Register.{register_reader, register_answer};
+ghost use Rattle.reader_slots.specs.Search.{lowest_slot};
+ghost use Rattle.reader_slots.specs.Inner.{HoldSlot, HoldSlots, SlotsBecome, available_by};
+ghost use Rattle.reader_register.specs.Register.{register_reader, slot_answer, register_answer};
 ghost use Rattle.reader_register.specs.Inner.{register_refusal, chosen_by, RegistersCall};
 
 use crate::stale;
-use reader_slots::slots::Slot;
+use reader_slots::slots::SlotLens;
 use reader_slots::{available, slots};
-use wal_types::{SharedOwnerRecord, SharedWalOwnershipMode, refusal};
-
-// Taken is the reader's slot. Refused changes nothing, and neither does NoSlot.
-#[derive(Clone, Copy)]
-pub enum Register {
-    Taken(usize),
-    NoSlot,
-    Refused(u32),
-}
+use wal_types::refusal::Refusal;
+use wal_types::{SharedOwnerRecord, SharedWalOwnershipMode};
 
 // Writes a reader into its slot: bit 0, owner, mark, and the local owner.
 fn take_slot(
@@ -32,7 +25,7 @@ fn take_slot(
     owner: SharedOwnerRecord,
     mark: u64,
 )
-    requires { (slot / 64 < length bitmap.old) × ((slot < length reader_frames.old) × ((slot < length reader_owners.old) × (slot < length local_readers.old))) }
+    requires { HoldSlot slot bitmap.old (reader_frames.old ∷ reader_owners.old ∷ local_readers.old ∷ []) }
     ensures { SlotsBecome (λ m p. apply (take_slot slot owner.0 mark m) m) bitmap.old reader_frames.old reader_owners.old local_readers.old bitmap.new reader_frames.new reader_owners.new × (local_readers.new ≡ set local_readers.old slot owner.0) }
 {
     let word = slot / 64;
@@ -42,37 +35,20 @@ fn take_slot(
     local_readers[slot] = owner.0;
 }
 
-// Refusal 1, 2, 9, 10 or 14, by the lengths of the lent parts, the owner, the mark and the card; 0 for none of them.
-fn register_refusal(
+// Refusal 1, 2, 9, 10 or 14, by the lengths of the lent parts, the owner, the mark and the card.
+#[tactic(auto, using(crate::proofs::Registered::number_early, crate::proofs::Registered::number_reader, crate::proofs::Registered::number_card))]
+fn check_register(
     n: usize,
-    bitmap_len: usize,
-    reader_frames_len: usize,
-    reader_owners_len: usize,
-    local_readers_len: usize,
+    lens: SlotLens,
     card: &[u8],
     owner: SharedOwnerRecord,
     mark: u64,
-) -> u32
-    ensures { result ≡ register_refusal n bitmap_len reader_frames_len reader_owners_len local_readers_len owner.0 mark card.now }
+) -> Result<(), Refusal>
+    ensures { refused_number result ≡ register_refusal n lens owner.0 mark card.now }
 {
-    let early = slots::slots_refusal(
-        n,
-        bitmap_len,
-        reader_frames_len,
-        reader_owners_len,
-        local_readers_len,
-    );
-    if early != 0 {
-        return early;
-    }
-    let by_reader = slots::reader_refusal(owner, mark);
-    if by_reader != 0 {
-        return by_reader;
-    }
-    if slots::bad_card(n, card) {
-        return refusal::CARD;
-    }
-    0
+    slots::check_slots(n, lens)?;
+    slots::check_reader(owner, mark)?;
+    slots::check_card(n, card)
 }
 
 // register_reader where none of its refusals applies and no slot is free: the lowest stale slot is taken, which is free once
@@ -87,14 +63,12 @@ fn register_stale(
     card: &[u8],
     owner: SharedOwnerRecord,
     mark: u64,
-) -> Register
-    requires { (n ≤ 256) × (((n + 63) / 64 ≤ length bitmap.old) × ((n ≤ length reader_frames.old) × ((n ≤ length reader_owners.old) × ((n ≤ length local_readers.old) × ((length card.now ≡ n) × (lowest_slot (available_by bitmap.old local_readers.old card.now) n 0 ≡ Nothing)))))) }
-    ensures { RegistersCall n mode owner.0 mark card.now bitmap.old reader_frames.old reader_owners.old local_readers.old (register_answer owner.0 mark result) bitmap.new reader_frames.new reader_owners.new local_readers.new }
+) -> Option<usize>
+    requires room { HoldSlots n bitmap.old (reader_frames.old ∷ reader_owners.old ∷ local_readers.old ∷ card.now ∷ []) }
+    requires none_free { lowest_slot (available_by bitmap.old local_readers.old card.now) n 0 ≡ None }
+    ensures { RegistersCall n mode owner.0 mark card.now bitmap.old reader_frames.old reader_owners.old local_readers.old (slot_answer owner.0 mark result) bitmap.new reader_frames.new reader_owners.new local_readers.new }
 {
-    let Slot::At(slot) = stale::stale_slot(n, mode, bitmap, reader_owners, local_readers, card)
-    else {
-        return Register::NoSlot;
-    };
+    let slot = stale::stale_slot(n, mode, bitmap, reader_owners, local_readers, card)?;
     stale::reclaim_stale_reader_slots(
         n,
         slot,
@@ -114,10 +88,11 @@ fn register_stale(
         owner,
         mark,
     );
-    Register::Taken(slot)
+    Some(slot)
 }
 
 // register_reader where none of its refusals applies. The lowest free slot is taken; if none is free, the lowest stale one.
+#[tactic(auto, using(crate::proofs::Registered::takes_free, reader_slots::proofs::Lowest::found_below))]
 pub fn register_checked(
     n: usize,
     mode: SharedWalOwnershipMode,
@@ -128,11 +103,11 @@ pub fn register_checked(
     card: &[u8],
     owner: SharedOwnerRecord,
     mark: u64,
-) -> Register
-    requires { (n ≤ 256) × (((n + 63) / 64 ≤ length bitmap.old) × ((n ≤ length reader_frames.old) × ((n ≤ length reader_owners.old) × ((n ≤ length local_readers.old) × (length card.now ≡ n))))) }
-    ensures { RegistersCall n mode owner.0 mark card.now bitmap.old reader_frames.old reader_owners.old local_readers.old (register_answer owner.0 mark result) bitmap.new reader_frames.new reader_owners.new local_readers.new }
+) -> Option<usize>
+    requires { HoldSlots n bitmap.old (reader_frames.old ∷ reader_owners.old ∷ local_readers.old ∷ card.now ∷ []) }
+    ensures { RegistersCall n mode owner.0 mark card.now bitmap.old reader_frames.old reader_owners.old local_readers.old (slot_answer owner.0 mark result) bitmap.new reader_frames.new reader_owners.new local_readers.new }
 {
-    if let Slot::At(slot) = available::available_slot(n, bitmap, local_readers, card) {
+    if let Some(slot) = available::available_slot(n, bitmap, local_readers, card) {
         take_slot(
             bitmap,
             reader_frames,
@@ -142,7 +117,7 @@ pub fn register_checked(
             owner,
             mark,
         );
-        return Register::Taken(slot);
+        return Some(slot);
     }
     register_stale(
         n,
@@ -158,6 +133,7 @@ pub fn register_checked(
 }
 
 // Whether a registration could take a slot: one is free, or else one is stale.
+#[tactic(auto, unfolding(crate::specs::Inner::chosen_by))]
 pub fn could_take(
     n: usize,
     mode: SharedWalOwnershipMode,
@@ -166,22 +142,17 @@ pub fn could_take(
     local_readers: &[u64],
     card: &[u8],
 ) -> bool
-    requires { (n ≤ 256) × (((n + 63) / 64 ≤ length bitmap.now) × ((n ≤ length reader_owners.now) × ((n ≤ length local_readers.now) × (n ≤ length card.now)))) }
-    ensures { result ≡ found_slot (chosen_by n mode card.now bitmap.now reader_owners.now local_readers.now) }
+    requires { HoldSlots n bitmap.now (reader_owners.now ∷ local_readers.now ∷ card.now ∷ []) }
+    ensures { result ≡ is_some (chosen_by n mode card.now bitmap.now reader_owners.now local_readers.now) }
 {
-    if let Slot::At(found) = available::available_slot(n, bitmap, local_readers, card) {
-        return true;
-    }
-    let Slot::At(found) = stale::stale_slot(n, mode, bitmap, reader_owners, local_readers, card)
-    else {
-        return false;
-    };
-    true
+    available::available_slot(n, bitmap, local_readers, card).is_some()
+        || stale::stale_slot(n, mode, bitmap, reader_owners, local_readers, card).is_some()
 }
 
 // Takes a reader slot for a read transaction at a mark. The mark in the slot keeps checkpoints from copying past it. What
 // register_checked does stands here once more, so that the compiler makes one function of this call: only where no slot is
 // free are the lent slices passed on through the stack.
+#[tactic(auto, using(crate::proofs::Registered::checked, crate::proofs::Registered::takes_free, crate::proofs::Registered::register_accepted, reader_slots::proofs::Lowest::found_below))]
 pub fn register_reader(
     n: usize,
     mode: SharedWalOwnershipMode,
@@ -192,23 +163,12 @@ pub fn register_reader(
     card: &[u8],
     owner: SharedOwnerRecord,
     mark: u64,
-) -> Register
+) -> Result<Option<usize>, Refusal>
     ensures { ReaderCall (register_reader n mode owner.0 mark card.now) bitmap.old reader_frames.old reader_owners.old local_readers.old (register_answer owner.0 mark result) bitmap.new reader_frames.new reader_owners.new local_readers.new }
 {
-    let refused = register_refusal(
-        n,
-        bitmap.len(),
-        reader_frames.len(),
-        reader_owners.len(),
-        local_readers.len(),
-        card,
-        owner,
-        mark,
-    );
-    if refused != 0 {
-        return Register::Refused(refused);
-    }
-    if let Slot::At(free) = available::available_slot(n, bitmap, local_readers, card) {
+    let lens = SlotLens::of(bitmap, reader_frames, reader_owners, local_readers);
+    check_register(n, lens, card, owner, mark)?;
+    if let Some(free) = available::available_slot(n, bitmap, local_readers, card) {
         take_slot(
             bitmap,
             reader_frames,
@@ -218,9 +178,9 @@ pub fn register_reader(
             owner,
             mark,
         );
-        return Register::Taken(free);
+        return Ok(Some(free));
     }
-    register_stale(
+    Ok(register_stale(
         n,
         mode,
         bitmap,
@@ -230,5 +190,5 @@ pub fn register_reader(
         card,
         owner,
         mark,
-    )
+    ))
 }

@@ -1,76 +1,77 @@
 // The registry of shared marks, a lent slice of records: what a call looks for in it, and the changes of one record.
 #![tactic(auto)]
 
-ghost use Rattle.std.specs.Prelude.{◌≡◌, min, length};
+ghost use Rattle.std.specs.Prelude.{◌≡◌, true, min, length, take, position};
 ghost use Rattle.reader_slots.specs.Slots.{is_in_registry};
 ghost use Rattle.reader_marks.specs.InnerChange.{retained, published, released};
-ghost use Rattle.reader_marks.specs.Registry.{first_record};
-ghost use Rattle.reader_marks.specs.InnerScan.{picks, place_in, seen_of};
+ghost use Rattle.reader_marks.specs.InnerScan.{picks, wants_use, seen_of};
 
 use reader_marks::{Seen, Wanted};
-use reader_slots::available;
 use wal_types::{SharedOwnerRecord, SharedReadMark};
 
-// The place of the first record that is wanted, of the first n or of all if there are fewer; how many records there are, where
-// none is. Most of a registry is empty, and eight empty records cost eight loads and one test. Where one of eight is in use,
-// the scan goes record by record up to close. A direct release looks at all n records unless one names its slot (refusal 11),
-// so at 256 slots this loop is most of its time, at what a processor needs for one load of each record.
-fn first_record(registry: &[SharedReadMark], n: usize, wanted: Wanted) -> usize
-    ensures { result ≡ place_in (length registry.now) (first_record (picks wanted) registry.now (min n (length registry.now)) 0) }
+// The first n records, or all if there are fewer.
+fn first_records(registry: &[SharedReadMark], n: usize) -> &[SharedReadMark]
+    ensures { result.now ≡ take (min n (length registry.now)) registry.now }
 {
-    let end = available::smaller(n, registry.len());
-    let mut stop = end;
-    let mut i = 0;
-    let mut close = 0;
-    while i < stop {
-        let mut pass = false;
-        if close <= i {
-            if 8 <= stop - i {
-                close = i + 8;
-                pass = reader_marks::passes_over(
-                    registry[i],
-                    registry[i + 1],
-                    registry[i + 2],
-                    registry[i + 3],
-                    registry[i + 4],
-                    registry[i + 5],
-                    registry[i + 6],
-                    registry[i + 7],
-                    wanted,
-                );
-            }
+    &registry[..n.min(registry.len())]
+}
+
+// The place of the first record that is wanted.
+fn first_of(records: &[SharedReadMark], wanted: Wanted) -> Option<usize>
+    ensures { result ≡ position (picks wanted) records.now }
+{
+    records.iter().position(|item| wanted.picks(*item))
+}
+
+// The same, of a record in use. Most of a registry is empty, and eight empty records cost eight loads and one test. Where one
+// of eight is in use, the scan goes through them record by record. A direct release looks at all n records unless one names
+// its slot (refusal 11), so at 256 slots this loop is most of its time, at what a processor needs for one load of each record.
+// Each caller has a loop of its own, in which it is known what is wanted: one function for all of them took half as long
+// again. With arrays of eight in place of chunks the compiler writes the inner scan out eight times, and a direct release of
+// up to 64 slots took a tenth longer.
+#[inline(always)]
+fn first_used(records: &[SharedReadMark], wanted: Wanted) -> Option<usize>
+    requires { wants_use wanted ≡ true }
+    ensures { result ≡ position (picks wanted) records.now }
+{
+    for (k, part) in records.chunks(8).enumerate() {
+        if reader_marks::eight_empty(part) {
+            continue;
         }
-        if pass {
-            i += 8;
-        } else {
-            stop = reader_marks::see(stop, i, registry[i], wanted);
-            i += 1;
+        if let Some(i) = first_of(part, wanted) {
+            return Some(k * 8 + i);
         }
     }
-    reader_marks::place_told(stop, end, registry.len())
+    None
 }
 
 // Looks for a mark among the first n records, or all if there are fewer, and for an empty one where the mark has none.
+#[inline(always)]
 pub fn look_through(registry: &[SharedReadMark], n: usize, mark: u64) -> Seen
     ensures { result ≡ seen_of (min n (length registry.now)) registry.now mark }
 {
-    let place = first_record(registry, n, reader_marks::mark_wanted(mark));
-    if place < registry.len() {
-        return reader_marks::seen_alone(place, registry[place]);
+    let records = first_records(registry, n);
+    match first_used(records, Wanted::Mark(mark)) {
+        Some(place) => Seen::Shared {
+            place,
+            item: records[place],
+        },
+        None => Seen::New {
+            free: first_of(records, Wanted::Empty),
+        },
     }
-    let free = first_record(registry, n, reader_marks::empty_wanted());
-    reader_marks::seen_with(free, registry.len())
 }
 
 // Whether one of the first n records is in use for the slot.
+#[inline(always)]
 pub fn slot_is_shared(registry: &[SharedReadMark], n: usize, slot: usize) -> bool
     ensures { result ≡ is_in_registry n registry.now slot }
 {
-    let place = first_record(registry, n, reader_marks::slot_wanted(slot));
-    reader_marks::is_place(place, registry.len())
+    first_used(first_records(registry, n), Wanted::Slot(slot)).is_some()
 }
 
-// A connection more shares the mark of a record. Past the end nothing is written.
+// A connection more shares the mark of a record. Past the end nothing is written. (No get_mut: a proof knows nothing of the list
+// that it was taken from. The same below.)
 pub fn retain_shared_snapshot_reader(registry: &mut [SharedReadMark], at: usize)
     ensures { registry.new ≡ retained at registry.old }
 {

@@ -1,3 +1,2 @@
--- Laws of plans and of refusals.
+-- Laws of refusals.
 pub mod Refused
-pub mod Plans

@@ -1,72 +1,65 @@
 -- Words for the contracts of the inner functions: the calls' tests, over single cells and lists. No contract of a call cites
 -- them. Assumes nothing.
-use Rattle.std.specs.Prelude.{◌≡◌, Bool, not, ◌&&◌, ◌||◌, cond, List, [], ◌∷◌, ◌++◌, ℕ, ◌<◌, min, eqb, leb, length}
+use Rattle.std.specs.Prelude.{◌≡◌, Option, Some, None, Result, Ok, Err, Bool, not, ◌&&◌, ◌||◌, List, [], ◌∷◌, ◌++◌, ℕ, min, eqb, leb, length}
 use Rattle.wal_types.specs.declared.SharedOwnerRecord.{SharedOwnerRecord}
 use Rattle.wal_types.specs.declared.SharedReadMark.{SharedReadMark}
 use Rattle.wal_types.specs.declared.SharedWalOwnershipMode.{SharedWalOwnershipMode}
 use Rattle.wal_types.specs.Settings.{most_holders, is_fcntl}
-use Rattle.wal_types.specs.Refusal.{Test, ◌if◌, lowest, not_held, other_owner, no_such_mark}
+use Rattle.wal_types.specs.declared.refusal.Refusal.{Refusal}
+use Rattle.wal_types.specs.Refusal.{Test, ◌if◌, lowest}
+use Rattle.wal_types.specs.declared.refusal.Refusal.TheVariants.{NotHeld, OtherOwner, NoSuchMark, RegistryFull}
 use Rattle.wal_types.specs.Call.{Call, Carried, Answer, after}
+use Rattle.reader_slots.specs.declared.slots.SlotLens.{SlotLens}
 use Rattle.reader_slots.specs.Inner.{registry_tests, reader_tests}
 use Rattle.reader_marks.specs.declared.Seen.{Seen}
+use Rattle.reader_marks.specs.InnerChange.{retained, published, released}
 use Rattle.reader_marks.specs.InnerScan.{seen_of}
-use Rattle.reader_register.specs.declared.register.Register.{Register}
-use Rattle.reader_register.specs.declared.register.Register.TheVariants.{Taken as RegisterTaken, NoSlot as RegisterNone, Refused as RegisterRefused}
-use Rattle.reader_moves.specs.declared.update.Release.TheVariants.{Released, Refused as NotReleased}
-use Rattle.reader_shared.specs.declared.shared.Share.{Share}
-use Rattle.reader_shared.specs.declared.shared.Share.TheVariants.{Taken, NoSlot as NotTaken, Refused as NotShared}
+use Rattle.reader_shared.specs.declared.shared.SharedSlot.{SharedSlot}
+use Rattle.reader_shared.specs.declared.shared.RecordChange.{RecordChange}
+use Rattle.reader_shared.specs.declared.shared.RecordChange.TheVariants.{Retained, Published}
 use Rattle.reader_shared.specs.declared.shared.SharePlan.{SharePlan}
-use Rattle.reader_shared.specs.declared.shared.UnsharePlan.{UnsharePlan}
 use Rattle.reader_shared.specs.Shared.{SharedCarried}
 
--- the plan that changes nothing: its places are past the end
-abbrev pub shares_nothing : ℕ → Share → SharePlan
-shares_nothing records answer = record { retained = records; published = records; slot = 0; answer = answer }
+-- the plan for a mark whose record is found, and for a new one
+abbrev pub shares_joined : ℕ → SharedReadMark → ℕ → SharePlan
+shares_joined place item mark =
+    record { taken = record { slot = item.slot; owner = item.owner; mark = mark }; change = Retained place }
 
--- the plan for a mark whose record is found
-unfoldable pub shares_joined : ℕ → ℕ → SharedReadMark → ℕ → Bool → SharePlan
-shares_joined records found item mark bad =
-    cond (leb most_holders item.holders)
-    (shares_nothing records (NotShared 13))
-    (cond bad
-    (shares_nothing records (NotShared 14))
-    (record { retained = found; published = records; slot = 0; answer = Taken item.slot item.owner mark }))
+abbrev pub shares_published : ℕ → ℕ → SharedOwnerRecord → ℕ → SharePlan
+shares_published free slot owner mark =
+    record { taken = record { slot = slot; owner = owner; mark = mark }; change = Published free }
 
--- the slot that register_checked has answered is a 32-bit number
-abbrev pub SlotFits : Register → Type 0
-SlotFits registered = (slot : ℕ) → registered ≡ RegisterTaken slot → slot < 4294967296
+-- what a plan makes of the registry, and what a registration and a release do: one that takes no slot, or is refused, leaves it
+-- as it is
+abbrev pub changed : RecordChange → SharedSlot → List SharedReadMark → List SharedReadMark
+changed (Retained i) taken registry = retained i registry
+changed (Published i) taken registry = published i taken.mark taken.slot taken.owner registry
 
--- the plan for a new mark, by what register_checked has answered
-unfoldable pub shares_published : ℕ → ℕ → Register → SharedOwnerRecord → ℕ → SharePlan
-shares_published records free (RegisterTaken slot) owner mark =
-    record { retained = records; published = free; slot = slot; answer = Taken slot owner mark }
-shares_published records free RegisterNone owner mark = shares_nothing records NotTaken
-shares_published records free (RegisterRefused k) owner mark = shares_nothing records NotTaken
+abbrev pub share_change : Result (Option SharePlan) Refusal → List SharedReadMark → List SharedReadMark
+share_change (Ok (Some plan)) registry = changed plan.change plan.taken registry
+share_change (Ok None) registry = registry
+share_change (Err r) registry = registry
 
--- the answer to a new mark where no record is empty, by whether a slot could be taken
-abbrev pub no_record_answer : Bool → Share
-no_record_answer takes = cond takes (NotShared 13) NotTaken
+abbrev pub unshare_change : Result ℕ Refusal → List SharedReadMark → List SharedReadMark
+unshare_change (Ok place) registry = released place registry
+unshare_change (Err r) registry = registry
 
--- the plan of a release that is refused, and of one that is made
-abbrev pub releases_nothing : ℕ → ℕ → UnsharePlan
-releases_nothing records number = record { released = records; answer = NotReleased number }
-
-abbrev pub releases_one : ℕ → UnsharePlan
-releases_one found = record { released = found; answer = Released }
+-- the number of refusal 13 of a mark that has this record, 0 where it does not apply
+abbrev pub room_refusal : SharedReadMark → ℕ
+room_refusal item = lowest ((RegistryFull if leb most_holders item.holders) ∷ [])
 
 -- the number of refusal 1, 2, 9 or 10, 0 for none of them
-abbrev pub four_tests : ℕ → ℕ → ℕ → ℕ → ℕ → ℕ → ℕ → ℕ → List Test
-four_tests n words frames owners locals records owner mark =
-    registry_tests n words frames owners locals records ++ reader_tests owner mark
+abbrev pub four_tests : ℕ → SlotLens → ℕ → ℕ → ℕ → List Test
+four_tests n lens records owner mark = registry_tests n lens records ++ reader_tests owner mark
 
-unfoldable pub share_refusal : ℕ → ℕ → ℕ → ℕ → ℕ → ℕ → ℕ → ℕ → ℕ
-share_refusal n words frames owners locals records owner mark = lowest (four_tests n words frames owners locals records owner mark)
+unfoldable pub share_refusal : ℕ → SlotLens → ℕ → ℕ → ℕ → ℕ
+share_refusal n lens records owner mark = lowest (four_tests n lens records owner mark)
 
 -- the number of refusal 7 or 8 of a release that frees the slot, by the slot's shared and local owners; 0 for neither
 abbrev pub last_tests : SharedWalOwnershipMode → Bool → ℕ → ℕ → ℕ → List Test
 last_tests mode frees owner shared local =
-    (not_held if (frees && not (not (eqb local 0))))
-    ∷ (other_owner if (frees && (not (eqb owner shared) || (is_fcntl mode && not (eqb owner local)))))
+    (NotHeld if (frees && not (not (eqb local 0))))
+    ∷ (OtherOwner if (frees && (not (eqb owner shared) || (is_fcntl mode && not (eqb owner local)))))
     ∷ []
 
 unfoldable pub last_refusal : SharedWalOwnershipMode → Bool → ℕ → ℕ → ℕ → ℕ
@@ -74,7 +67,7 @@ last_refusal mode frees owner shared local = lowest (last_tests mode frees owner
 
 -- the number of refusal 9, 10 or 12, 0 for none of them; and of these and 7 and 8
 abbrev pub mark_tests : ℕ → ℕ → Bool → List Test
-mark_tests owner mark known = reader_tests owner mark ++ ((no_such_mark if not known) ∷ [])
+mark_tests owner mark known = reader_tests owner mark ++ ((NoSuchMark if not known) ∷ [])
 
 unfoldable pub mark_refusal : ℕ → ℕ → Bool → ℕ
 mark_refusal owner mark known = lowest (mark_tests owner mark known)

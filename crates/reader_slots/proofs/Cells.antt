@@ -17,11 +17,6 @@ pub and_false : (a : Bool) → (a && false) ≡ false
 and_false true = refl
 and_false false = refl
 
-pub third_false : (a b d : Bool) → (a && b && false && d) ≡ false
-third_false true true d = refl
-third_false true false d = refl
-third_false false b d = refl
-
 pub last_false : (a b c : Bool) → (a && b && c && false) ≡ false
 last_false a b c = and_false (a && b && c)
 
@@ -34,4 +29,4 @@ pub live_not_dead : (s h g : Bool) → (not s && (h || not g)) ≡ true → (not
 live_not_dead true h g e = refl
 live_not_dead false true g e = refl
 live_not_dead false false false e = refl
-live_not_dead false false true e = let z : ◌≡◌ {A = Bool} false true = e in let y : ◌≡◌ {A = ℕ} 0 1 = cc in absurd (omega arith)
+live_not_dead false false true e = let z : ◌≡◌ {A = Bool} false true = e in cc

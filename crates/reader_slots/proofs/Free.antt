@@ -7,11 +7,10 @@ use native.Mathlib.Decide.{ℕ_discrete}
 use native.Mathlib.Omega.{arith}
 use lib.Dec.{eqb}
 use lib.ListN.{get_or}
+use Rattle.std.specs.Prelude.{Option, Some, None}
 use Rattle.wal_types.specs.Memory.{bit_at}
 use Rattle.word_bits.specs.Bit.{clear_bit, Lowest}
 use Rattle.word_bits.proofs.Bits.{clear_other, clear_less}
-use Rattle.reader_slots.specs.declared.slots.Slot.{Slot}
-use Rattle.reader_slots.specs.declared.slots.Slot.TheVariants.{At, Nothing}
 use Rattle.reader_slots.specs.Search.{lowest_slot}
 use Rattle.reader_slots.specs.Inner.{available_in}
 use Rattle.reader_slots.proofs.Lowest.{lowest_none, lowest_is, lowest_same}
@@ -35,17 +34,17 @@ unready true false g e = refl
 unready false b g e = refl
 
 -- the word's bits that are still to be looked at, and the lowest of them
-module _ (left first end : ℕ) (locals bytes : List ℕ) (whole : Slot) (so_far : lowest_slot (available_in left first locals bytes) (end - first) first ≡ whole) (t : ℕ) (low : Lowest left t) where
+module _ (left first end : ℕ) (locals bytes : List ℕ) (whole : Option ℕ) (so_far : lowest_slot (available_in left first locals bytes) (end - first) first ≡ whole) (t : ℕ) (low : Lowest left t) where
   below_unset : (j : ℕ) → first ≤ j → j < first + t → available_in left first locals bytes j ≡ false
   below_unset j a b = rw (low.before (j - first) (omega arith)) (unset (eqb (get_or locals j 0) 0) (eqb (get_or bytes j 0) 1))
 
   -- it lies past the last slot
-  pub free_past : first ≤ end → end ≤ first + t → Nothing ≡ whole
+  pub free_past : first ≤ end → end ≤ first + t → None ≡ whole
   free_past s p = sym (lowest_none (available_in left first locals bytes) (end - first) first (λ j a b. below_unset j a (omega arith))) ∙ so_far
 
   module _ (s : first ≤ end) (p : first + t < end) (q : t < 64) where
     -- its slot can be locked
-    pub free_found : ready locals bytes (first + t) ≡ true → At (first + t) ≡ whole
+    pub free_found : ready locals bytes (first + t) ≡ true → Some (first + t) ≡ whole
     free_found y =
         let e : first + t - first ≡ t = omega arith in
         let here : available_in left first locals bytes (first + t) ≡ true = rw (e, low.here q) (set_ready (eqb (get_or locals (first + t) 0) 0) (eqb (get_or bytes (first + t) 0) 1) y) in

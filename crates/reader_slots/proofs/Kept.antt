@@ -18,7 +18,7 @@ use Rattle.word_bits.specs.Bit.{set_bit, clear_bit}
 use Rattle.word_bits.proofs.Bits.{set_same, set_other, clear_other}
 use Rattle.reader_slots.specs.Slots.{free_bit, take_bit, take_slot, empty_slot, empty_slots}
 use Rattle.reader_slots.specs.Inner.{emptied_if}
-use Rattle.reader_slots.proofs.Calls.{apply_append}
+use Rattle.wal_types.proofs.Stores.{apply_append}
 
 -- slot j's cells are the same in two memories
 pub record SlotSame (j : ℕ) (m m' : Memory) : Type 0 where
@@ -132,7 +132,7 @@ words_kept ProcessScopedFcntl true i m = simp length-set
 words_kept mode false i m = refl
 
 impossible : ◌≡◌ {A = Bool} true false → ⊥
-impossible e = let z : ◌≡◌ {A = ℕ} 0 1 = cc in omega arith
+impossible e = cc
 
 -- A pass whose test of slot j goes by that slot's cells alone treats the slot by the cells that it has before the pass.
 module _ (mode : SharedWalOwnershipMode) (test : Memory → ℕ → Bool) (j : ℕ) (by_cells : (m m' : Memory) → SlotSame j m m' → test m' j ≡ test m j) where

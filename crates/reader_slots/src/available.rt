@@ -1,25 +1,28 @@
 // The lowest slot that a reader can take at once, looked for word by word.
-ghost use Rattle.std.specs.Prelude.{◌≡◌, ◌&&◌, ◌+◌, ◌-◌, ◌/◌, ◌≤◌, min, eqb, length};
+ghost use Rattle.std.specs.Prelude.{◌≡◌, ◌&&◌, [], ◌∷◌, ◌+◌, ◌-◌, ◌≤◌, eqb};
 ghost use Rattle.reader_slots.specs.Search.{lowest_slot};
-ghost use Rattle.reader_slots.specs.Inner.{available_by, available_in};
+ghost use Rattle.reader_slots.specs.Inner.{AllHold, HoldSlots, available_by, available_in};
 
-use crate::slots::Slot;
-use wal_types::SharedOwnerRecord;
+use wal_types::{SharedOwnerRecord, UNOWNED_LOCK};
 
 // A slot that can be locked: it is granted and not held here.
 fn can_lock(local_owner: SharedOwnerRecord, card: u8) -> bool
     ensures { result ≡ (eqb local_owner.0 0 && eqb card 1) }
 {
-    if local_owner.0 != 0 {
-        return false;
-    }
-    card == 1
+    local_owner.0 == UNOWNED_LOCK && card == 1
 }
 
 // The lowest available slot of one word, whose slots are those from first to end. Only free slots are looked at, from the
-// lowest set bit on: a slot that cannot be locked has its bit dropped.
-fn slot_in_word(word: u64, first: usize, end: usize, local_readers: &[u64], card: &[u8]) -> Slot
-    requires { ((first ≤ end) × (end ≤ first + 64)) × ((end ≤ length local_readers.now) × ((end ≤ length card.now) × (end ≤ 256))) }
+// lowest set bit on: a slot that cannot be locked has its bit dropped. It is a while, since std has no iterator over the set
+// bits of a word.
+fn slot_in_word(
+    word: u64,
+    first: usize,
+    end: usize,
+    local_readers: &[u64],
+    card: &[u8],
+) -> Option<usize>
+    requires { (first ≤ end) × (end ≤ first + 64) × (end ≤ 256) × AllHold end (local_readers.now ∷ card.now ∷ []) }
     ensures { result ≡ lowest_slot (available_in word first local_readers.now card.now) (end - first) first }
 {
     let mut left = word;
@@ -27,35 +30,30 @@ fn slot_in_word(word: u64, first: usize, end: usize, local_readers: &[u64], card
         let bit = word_bits::lowest_bit(left);
         let slot = first + bit as usize;
         if end <= slot {
-            return Slot::Nothing;
+            return None;
         }
         if can_lock(SharedOwnerRecord(local_readers[slot]), card[slot]) {
-            return Slot::At(slot);
+            return Some(slot);
         }
         left = word_bits::without_bit(left, bit);
     }
-    Slot::Nothing
+    None
 }
 
-pub fn smaller(a: usize, b: usize) -> usize
-    ensures { result ≡ min a b }
-{
-    if a < b { a } else { b }
-}
-
-// The lowest slot that is free, granted and not held here.
-pub fn available_slot(n: usize, bitmap: &[u64], local_readers: &[u64], card: &[u8]) -> Slot
-    requires { ((n ≤ 256) × ((n + 63) / 64 ≤ length bitmap.now)) × ((n ≤ length local_readers.now) × (n ≤ length card.now)) }
+// The lowest slot that is free, granted and not held here. It is a for: with find_map, of which std has no lemma, the proof
+// did not close.
+pub fn available_slot(n: usize, bitmap: &[u64], local_readers: &[u64], card: &[u8]) -> Option<usize>
+    requires { HoldSlots n bitmap.now (local_readers.now ∷ card.now ∷ []) }
     ensures { result ≡ lowest_slot (available_by bitmap.now local_readers.now card.now) n 0 }
 {
     let words = (n + 63) / 64;
     for word in 0..words {
         let first = word * 64;
-        let end = smaller(first + 64, n);
+        let end = (first + 64).min(n);
         let found = slot_in_word(bitmap[word], first, end, local_readers, card);
-        if let Slot::At(slot) = found {
-            return Slot::At(slot);
+        if found.is_some() {
+            return found;
         }
     }
-    Slot::Nothing
+    None
 }

@@ -1,29 +1,40 @@
 // What all calls on reader slots share: the refusals 1, 2, 9, 10 and 14, and the emptying of one slot.
-ghost use Rattle.std.specs.Prelude.{◌≡◌, ◌&&◌, ◌/◌, ◌%◌, ◌<◌, max, eqb, length, get_or, set};
+ghost use Rattle.std.specs.Prelude.{◌≡◌, ◌&&◌, [], ◌∷◌, ◌/◌, ◌%◌, ◌<◌, eqb, length, get_or, set, IfOk};
 ghost use Rattle.wal_types.specs.Settings.{is_fcntl};
 ghost use Rattle.wal_types.specs.Memory.{Memory};
 ghost use Rattle.wal_types.specs.Store.{apply};
+ghost use Rattle.wal_types.specs.Refusal.{refused_number};
 ghost use Rattle.word_bits.specs.Bit.{set_bit};
-ghost use Rattle.reader_slots.specs.Slots.{is_bad_card, empty_slot, slots_in};
-ghost use Rattle.reader_slots.specs.Inner.{slots_refusal, registry_refusal, reader_refusal, greatest};
+ghost use Rattle.reader_slots.specs.Slots.{empty_slot, slots_in};
+ghost use Rattle.reader_slots.specs.Inner.{HoldSlot, lens_of, slots_refusal, registry_refusal, reader_refusal, card_refusal, greatest};
 
-use wal_types::{
-    SharedOwnerRecord, SharedWalOwnershipMode, UNOWNED_LOCK, UNUSED_READER_FRAME, refusal,
-};
+use wal_types::refusal::Refusal;
+use wal_types::{SharedOwnerRecord, SharedWalOwnershipMode, UNOWNED_LOCK, UNUSED_READER_FRAME};
 
-// A slot found, or none.
+// The lengths of the lent parts.
 #[derive(Clone, Copy)]
-pub enum Slot {
-    At(usize),
-    Nothing,
+pub struct SlotLens {
+    pub bitmap: usize,
+    pub reader_frames: usize,
+    pub reader_owners: usize,
+    pub local_readers: usize,
 }
 
-pub fn is_fcntl(mode: SharedWalOwnershipMode) -> bool
-    ensures { result ≡ is_fcntl mode }
-{
-    match mode {
-        SharedWalOwnershipMode::LinuxOfd => false,
-        SharedWalOwnershipMode::ProcessScopedFcntl => true,
+impl SlotLens {
+    pub fn of(
+        bitmap: &[u64],
+        reader_frames: &[u64],
+        reader_owners: &[u64],
+        local_readers: &[u64],
+    ) -> Self
+        ensures { result ≡ lens_of bitmap.now reader_frames.now reader_owners.now local_readers.now }
+    {
+        SlotLens {
+            bitmap: bitmap.len(),
+            reader_frames: reader_frames.len(),
+            reader_owners: reader_owners.len(),
+            local_readers: local_readers.len(),
+        }
     }
 }
 
@@ -31,108 +42,84 @@ pub fn is_fcntl(mode: SharedWalOwnershipMode) -> bool
 pub fn is_ownerless(mode: SharedWalOwnershipMode, owner: SharedOwnerRecord) -> bool
     ensures { result ≡ (is_fcntl mode && eqb owner.0 0) }
 {
-    match mode {
-        SharedWalOwnershipMode::LinuxOfd => false,
-        SharedWalOwnershipMode::ProcessScopedFcntl => owner.0 == UNOWNED_LOCK,
-    }
+    mode.is_fcntl() && owner.0 == UNOWNED_LOCK
 }
 
-// Refusal 1 or 2, by the lengths of the lent parts; 0 for neither.
-pub fn slots_refusal(
-    n: usize,
-    bitmap_len: usize,
-    reader_frames_len: usize,
-    reader_owners_len: usize,
-    local_readers_len: usize,
-) -> u32
-    ensures { result ≡ slots_refusal n bitmap_len reader_frames_len reader_owners_len local_readers_len }
+// Refusal 1 or 2, by the lengths of the lent parts.
+#[tactic(auto, unfolding(crate::specs::Inner::slots_refusal))]
+pub fn check_slots(n: usize, lens: SlotLens) -> Result<(), Refusal>
+    ensures { refused_number result ≡ slots_refusal n lens }
 {
-    if n < 1 {
-        return refusal::SETTINGS;
+    if n < 1 || 256 < n {
+        return Err(Refusal::Settings);
     }
-    if 256 < n {
-        return refusal::SETTINGS;
+    if lens.bitmap < (n + 63) / 64
+        || lens.reader_frames < n
+        || lens.reader_owners < n
+        || lens.local_readers < n
+    {
+        return Err(Refusal::ShortMemory);
     }
-    if bitmap_len < (n + 63) / 64 {
-        return refusal::SHORT_MEMORY;
-    }
-    if reader_frames_len < n {
-        return refusal::SHORT_MEMORY;
-    }
-    if reader_owners_len < n {
-        return refusal::SHORT_MEMORY;
-    }
-    if local_readers_len < n {
-        return refusal::SHORT_MEMORY;
-    }
-    0
+    Ok(())
 }
 
-// Refusal 1 or 2 where the registry of shared marks is lent too; 0 for neither.
-pub fn registry_refusal(
-    n: usize,
-    bitmap_len: usize,
-    reader_frames_len: usize,
-    reader_owners_len: usize,
-    local_readers_len: usize,
-    registry_len: usize,
-) -> u32
-    ensures { result ≡ registry_refusal n bitmap_len reader_frames_len reader_owners_len local_readers_len registry_len }
+// Refusal 1 or 2 where the registry of shared marks is lent too.
+#[tactic(auto, using(crate::proofs::Calls::registry_early, crate::proofs::Calls::registry_short, crate::proofs::Calls::registry_fits))]
+pub fn check_registry(n: usize, lens: SlotLens, registry_len: usize) -> Result<(), Refusal>
+    ensures { refused_number result ≡ registry_refusal n lens registry_len }
 {
-    let early = slots_refusal(
-        n,
-        bitmap_len,
-        reader_frames_len,
-        reader_owners_len,
-        local_readers_len,
-    );
-    if early != 0 {
-        return early;
-    }
+    check_slots(n, lens)?;
     if registry_len < n {
-        return refusal::SHORT_MEMORY;
+        return Err(Refusal::ShortMemory);
     }
-    0
+    Ok(())
 }
 
-// Refusal 9 or 10, by the owner and the mark of a reader; 0 for neither.
-pub fn reader_refusal(owner: SharedOwnerRecord, mark: u64) -> u32
-    ensures { result ≡ reader_refusal owner.0 mark }
+// Refusal 9 or 10, by the owner and the mark of a reader.
+#[tactic(auto, unfolding(crate::specs::Inner::reader_refusal))]
+pub fn check_reader(owner: SharedOwnerRecord, mark: u64) -> Result<(), Refusal>
+    ensures { refused_number result ≡ reader_refusal owner.0 mark }
 {
     if owner.0 == UNOWNED_LOCK {
-        return refusal::NO_OWNER;
+        return Err(Refusal::NoOwner);
     }
     if mark == UNUSED_READER_FRAME {
-        return refusal::UNUSED_MARK;
+        return Err(Refusal::UnusedMark);
     }
-    0
+    Ok(())
 }
 
-fn larger(a: u8, b: u8) -> u8
-    ensures { result ≡ max a b }
-{
-    if a < b { b } else { a }
-}
-
-// The greatest byte of the card, 0 if it has none.
+// The greatest byte of the card, 0 if it has none. All bytes are looked at, many at a time: no early exit.
+#[tactic(auto, unfolding(crate::specs::Inner::greatest))]
 pub fn greatest_byte(card: &[u8]) -> u8
     ensures { result ≡ greatest card.now }
 {
-    let mut so_far = 0;
-    for i in 0..card.len() {
-        so_far = larger(so_far, card[i]);
+    card.iter().fold(0, |so_far, byte| so_far.max(*byte))
+}
+
+// Whether the card has an error byte, or refusal 14. The length is tested first: the compiler then knows that at most 256
+// bytes are looked at.
+#[tactic(auto, using(crate::proofs::Card::above_by_greatest), unfolding(crate::specs::Inner::card_refusal))]
+pub fn card_has_error(n: usize, card: &[u8]) -> Result<bool, Refusal>
+    ensures refused { refused_number result ≡ card_refusal n card.now }
+    ensures told { IfOk result (λ has. has ≡ eqb (greatest card.now) 2) }
+{
+    if card.len() != n {
+        return Err(Refusal::Card);
     }
-    so_far
+    let greatest = greatest_byte(card);
+    if 2 < greatest {
+        return Err(Refusal::Card);
+    }
+    Ok(greatest == 2)
 }
 
 // Refusal 14.
-pub fn bad_card(n: usize, card: &[u8]) -> bool
-    ensures { result ≡ is_bad_card n card.now }
+pub fn check_card(n: usize, card: &[u8]) -> Result<(), Refusal>
+    ensures { refused_number result ≡ card_refusal n card.now }
 {
-    if card.len() != n {
-        return true;
-    }
-    2 < greatest_byte(card)
+    card_has_error(n, card)?;
+    Ok(())
 }
 
 // Slot i's bit becomes 1.
@@ -145,6 +132,8 @@ fn free_bit(bitmap: &mut [u64], slot: usize)
 }
 
 // Empties a slot, on release or when it is reclaimed: frame UNUSED, owner 0, bit 1, in the mode's order.
+// The lent parts are parameters of their own, here and in every call: a struct of &mut slices would bring the ghost name of
+// each reference into each contract.
 pub fn empty_slot(
     mode: SharedWalOwnershipMode,
     bitmap: &mut [u64],
@@ -152,7 +141,7 @@ pub fn empty_slot(
     reader_owners: &mut [u64],
     slot: usize,
 )
-    requires { (slot / 64 < length bitmap.old) × ((slot < length reader_frames.old) × (slot < length reader_owners.old)) }
+    requires { HoldSlot slot bitmap.old (reader_frames.old ∷ reader_owners.old ∷ []) }
     ensures { (z : Memory) → slots_in z bitmap.new reader_frames.new reader_owners.new ≡ apply (empty_slot mode slot (slots_in z bitmap.old reader_frames.old reader_owners.old)) (slots_in z bitmap.old reader_frames.old reader_owners.old) }
 {
     match mode {

@@ -5,9 +5,9 @@ use mathlib.Core.List.{List}
 use mathlib.Core.Logic.{◌⊎◌}
 use Prim.Native.Nat.{ℕ, ◌≤◌}
 use lib.ListN.{get_or}
+use Rattle.std.specs.Prelude.{None}
 use Rattle.wal_types.specs.Settings.{unused}
 use Rattle.wal_types.specs.Call.{Pair, value, frame_found, listed, accepted, Done, after}
-use Rattle.index_find.specs.declared.find.Watermark.TheVariants.{NoWatermark}
 use Rattle.index_find.specs.Find.{lookup_answer}
 use Rattle.reader_slots.specs.Slots.{held}
 use Rattle.index_grown.specs.Entries.{greatest}
@@ -37,7 +37,7 @@ module _ (s : Settings) (start : ℕ) (fresh : World) (before : List Event) (beg
   left op = after (perform s op) world.memory (world.processes now.who)
 
   -- LOOKUPS, LISTS AND SEARCHES up to m answer by the book as it stood when the hold began
-  lookup : (page low high : ℕ) → now.op ≡ look_op (find_op page low high NoWatermark) → high ≤ m → accepted (answer_of s now world) → answer_of s now world ≡ lookup_answer (greatest pairs page low high)
+  lookup : (page low high : ℕ) → now.op ≡ look_op (find_op page low high None) → high ≤ m → accepted (answer_of s now world) → answer_of s now world ≡ lookup_answer (greatest pairs page low high)
   lookup page low high e most =
       subst (λ (op : Op). accepted (left op).answer → (left op).answer ≡ lookup_answer (greatest pairs page low high)) (sym e)
       (find_seen s world.memory (world.processes now.who) here.now_book here.by_book m pairs here.seen low high most page)

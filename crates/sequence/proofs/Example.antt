@@ -1,4 +1,5 @@
 -- The sequence of specs/Example: the memory after each call in closed form, the premises of demand 3, and the answers. Assumes nothing.
+use Rattle.std.specs.Prelude.{Some}
 use mathlib.Core.Path.{◌≡◌, refl, sym, ◌∙◌, ap, subst}
 use mathlib.Core.Bool.{false}
 use mathlib.Core.List.Memᴰ
@@ -9,6 +10,7 @@ use native.Mathlib.Decide.{ℕ_discrete}
 use native.Mathlib.Omega.{arith}
 use lib.ListN.{length, get_or, length-replicate, get_or-replicate, length-map}
 use borrow.Author.Tests.{ne_eqb}
+use Rattle.std.specs.Prelude.{Some, None}
 use Rattle.wal_types.specs.declared.Header.{Header}
 use Rattle.wal_types.specs.declared.SharedWalOwnershipMode.TheVariants.{LinuxOfd}
 use Rattle.wal_types.specs.Settings.{unused}
@@ -19,9 +21,6 @@ use Rattle.header_publish.specs.Publish.{publish_commit, publish_backfill}
 use Rattle.wal_types.specs.Fresh.{fresh_header}
 use Rattle.index_end.specs.declared.cells.IndexCells.{IndexCells}
 use Rattle.index_end.specs.Cells.{cells_of}
-use Rattle.index_end.specs.declared.place.Place.TheVariants.{AtEnd}
-use Rattle.index_find.specs.declared.find.Watermark.TheVariants.{NoWatermark}
-use Rattle.index_find.specs.declared.find.Lookup.TheVariants.{Frame, NoFrame}
 use Rattle.index_hash.specs.Block.{built}
 use Rattle.index_find.specs.Index.{index_refusal, block_pages_of, with_block, index_in}
 use Rattle.index_end.specs.Place.{started, placed, out_of_order}
@@ -110,7 +109,7 @@ abbrev cells_at : ℕ → ℕ → IndexCells
 cells_at len published = cells_of (header_of len published 0)
 
 -- a record above the last frame is stored at the end
-module _ (page frame : ℕ) (m : Memory) (g : Grown 4096 1 m) (h : IndexCells) (end : placed 4096 1 false (started frame m.header) ≡ AtEnd h) (order : out_of_order frame h.frame_index_len m.frames ≡ false) where
+module _ (page frame : ℕ) (m : Memory) (g : Grown 4096 1 m) (h : IndexCells) (end : placed 4096 1 false (started frame m.header) ≡ Some h) (order : out_of_order frame h.frame_index_len m.frames ≡ false) where
   is_stored : (p : Process) → after (record_frame 4096 1 page frame false) m p ≡ done stored (with_entry page frame m h) p
   is_stored p = stores 4096 1 page frame false m p g h end (grown_accepted 4096 1 m g refl refl) order
 
@@ -133,14 +132,14 @@ m4 = with_header m3 (header_of 3 3 1)
 g0 : Grown 4096 1 fresh_memory
 g0 = fresh_grown 4096 1 fresh_memory 1 2 (omega arith) fresh.memory_fresh fresh_long
 
-end1 : placed 4096 1 false (started 1 fresh_memory.header) ≡ AtEnd (cells_at 0 0)
+end1 : placed 4096 1 false (started 1 fresh_memory.header) ≡ Some (cells_at 0 0)
 unfolding placed started
 end1 = refl
 
 g1 : Grown 4096 1 m1
 g1 = stays_grown 7 1 fresh_memory g0 (cells_at 0 0) end1 refl
 
-end2 : placed 4096 1 false (started 2 m1.header) ≡ AtEnd (cells_at 1 0)
+end2 : placed 4096 1 false (started 2 m1.header) ≡ Some (cells_at 1 0)
 unfolding placed started
 end2 = refl
 
@@ -151,7 +150,7 @@ order2 = refl
 g2 : Grown 4096 1 m2
 g2 = stays_grown 8199 2 m1 g1 (cells_at 1 0) end2 order2
 
-end3 : placed 4096 1 false (started 3 m2.header) ≡ AtEnd (cells_at 2 0)
+end3 : placed 4096 1 false (started 3 m2.header) ≡ Some (cells_at 2 0)
 unfolding placed started
 end3 = refl
 
@@ -225,7 +224,7 @@ m10 = index_in m9 (header_of 5 3 1) m9.pages m9.frames (with_block 0 (built (blo
 abbrev m11 : Memory
 m11 = with_header m10 (header_of 5 5 2)
 
-end7 : placed 4096 1 false (started 4 m5.header) ≡ AtEnd (cells_at 3 3)
+end7 : placed 4096 1 false (started 4 m5.header) ≡ Some (cells_at 3 3)
 unfolding placed started
 end7 = refl
 
@@ -236,7 +235,7 @@ order7 = refl
 g7 : Grown 4096 1 m7
 g7 = stays_grown 9 4 m5 g5 (cells_at 3 3) end7 order7
 
-end8 : placed 4096 1 false (started 5 m7.header) ≡ AtEnd (cells_at 4 3)
+end8 : placed 4096 1 false (started 5 m7.header) ≡ Some (cells_at 4 3)
 unfolding placed started
 end8 = refl
 
@@ -247,7 +246,7 @@ order8 = refl
 g8 : Grown 4096 1 m8
 g8 = stays_grown 7 5 m7 g7 (cells_at 4 3) end8 order8
 
-end9 : placed 4096 1 false (started 6 m8.header) ≡ AtEnd (cells_at 5 3)
+end9 : placed 4096 1 false (started 6 m8.header) ≡ Some (cells_at 5 3)
 unfolding placed started
 end9 = refl
 
@@ -393,14 +392,14 @@ module _ (now : Event) (d : Done) (q : ComesTo small now w11 d) where
 abbrev passed : index_refusal 4096 1 m11.header (length m11.pages) (length m11.frames) (length m11.hash) ≡ 0
 passed = grown_accepted 4096 1 m11 g11 refl refl
 
-looks : (page low high : ℕ) (a : Answer) → lookup_answer (greatest five page low high) ≡ a → after (find_frame 4096 1 page low high NoWatermark) m11 holder ≡ done a m11 holder
+looks : (page low high : ℕ) (a : Answer) → lookup_answer (greatest five page low high) ≡ a → after (find_frame 4096 1 page low high None) m11 holder ≡ done a m11 holder
 looks page low high a e = find_done 4096 1 m11 g11 holder page low high passed ∙ ap (λ (x : Answer). done x m11 holder) (ap (λ (l : List Pair). lookup_answer (greatest l page low high)) entries_now ∙ e)
 
-looked_up : after (find_frame 4096 1 7 1 3 NoWatermark) m11 holder ≡ done (frame_found 3) m11 holder
+looked_up : after (find_frame 4096 1 7 1 3 None) m11 holder ≡ done (frame_found 3) m11 holder
 unfolding greatest
 looked_up = looks 7 1 3 (frame_found 3) refl
 
-newest : after (find_frame 4096 1 7 1 5 NoWatermark) m11 holder ≡ done (frame_found 5) m11 holder
+newest : after (find_frame 4096 1 7 1 5 None) m11 holder ≡ done (frame_found 5) m11 holder
 unfolding greatest
 newest = looks 7 1 5 (frame_found 5) refl
 
@@ -439,10 +438,10 @@ is_three =
       every = λ page f e. by_page page f e (ℕ_discrete 7 page) (ℕ_discrete 8199 page);
     }
   where
-    at_page : (x g : ℕ) → greatest three x 1 3 ≡ Frame g → (page f : ℕ) → pair page f ≡ pair x g → greatest three page 1 3 ≡ Frame f
+    at_page : (x g : ℕ) → greatest three x 1 3 ≡ Some g → (page f : ℕ) → pair page f ≡ pair x g → greatest three page 1 3 ≡ Some f
     at_page x g e page f q = rw (ap (λ (y : Pair). y.page) q, ap (λ (y : Pair). y.frame) q) e
 
-    by_page : (page f : ℕ) → greatest three page 1 3 ≡ Frame f → Dec (7 ≡ page) → Dec (8199 ≡ page) → Memᴰ (pair page f) (pair 7 3 ∷ pair 8199 2 ∷ [])
+    by_page : (page f : ℕ) → greatest three page 1 3 ≡ Some f → Dec (7 ≡ page) → Dec (8199 ≡ page) → Memᴰ (pair page f) (pair 7 3 ∷ pair 8199 2 ∷ [])
     by_page page f e (yes a) d =
         let t = rw (← a) at e in
         let z : f ≡ 3 = cc in
@@ -452,7 +451,7 @@ is_three =
         let z : f ≡ 2 = cc in
         rw (← d, z) (Memᴰ.tail (Memᴰ.head refl))
     by_page page f e (no a) (no d) =
-        let none : greatest three page 1 3 ≡ NoFrame = rw (ne_eqb 7 page a, ne_eqb 8199 page d) in
+        let none : greatest three page 1 3 ≡ None = rw (ne_eqb 7 page a, ne_eqb 8199 page d) in
         let z : ◌≡◌ {A = ℕ} 0 1 = cc in
         absurd (omega arith)
 
@@ -589,7 +588,7 @@ pub example : Example
 example =
     record {
       calls_answer = trace_answers small trace_all;
-      newest_is_5 = gives (reader (look_op (find_op 7 1 5 NoWatermark))) _ newest;
+      newest_is_5 = gives (reader (look_op (find_op 7 1 5 None))) _ newest;
       lookup_held = held lookup _ looked_up (λ x. absurd (x refl));
       lookup_gives = gives lookup _ looked_up;
       list_held = held listing _ listed_now (λ x. absurd (x refl));

@@ -6,10 +6,11 @@ use mathlib.Core.Logic.{◌⊎◌, inl, inr}
 use Prim.Native.Nat.{ℕ, ◌≤◌}
 use lib.Dec.{ltb}
 use lib.ListN.{length}
+use Rattle.std.specs.Prelude.{None}
 use Rattle.wal_types.specs.Memory.{Memory, Process}
-use Rattle.wal_types.specs.Refusal.{◌if◌, short_list}
+use Rattle.wal_types.specs.Refusal.{◌if◌}
+use Rattle.wal_types.specs.declared.refusal.Refusal.TheVariants.{ShortList}
 use Rattle.wal_types.specs.Call.{Pair, refused, listed, turned_away, accepted, does, Done, done, after}
-use Rattle.index_find.specs.declared.find.Watermark.TheVariants.{NoWatermark}
 use Rattle.index_find.specs.Index.{index_refusal}
 use Rattle.index_find.specs.Find.{lookup_answer, find_frame}
 use Rattle.index_find.proofs.Refused.{index_refused}
@@ -34,24 +35,24 @@ list_refused : (capacity b low high room_pages room_frames : ℕ) (m : Memory) (
     → after (iter_latest_frames capacity b low high room_pages room_frames) m p ≡ done (refused n) m p
 unfolding iter_latest_frames
 list_refused capacity b low high room_pages room_frames m p n e i =
-    index_refused capacity b (λ z q. (short_list if (ltb room_pages (length (listed_entries low high z)) || ltb room_frames (length (listed_entries low high z)))) ∷ [])
+    index_refused capacity b (λ z q. (ShortList if (ltb room_pages (length (listed_entries low high z)) || ltb room_frames (length (listed_entries low high z)))) ∷ [])
     (λ z. does (listed (pairs_of z (listed_entries low high z))) (λ x. []) z) m p n e i
 
 module _ (s : Settings) (m : Memory) (p : Process) (b : Book) (stands : Stands s m b) (mark : ℕ) (es : List Pair) (seen : Seen mark es m) (low high : ℕ) (most : high ≤ mark) where
   -- a lookup that is not refused gives the greatest frame of the page among the pairs that are seen
-  pub find_seen : (page : ℕ) → accepted (after (find_frame s.capacity s.max_blocks page low high NoWatermark) m p).answer
-      → (after (find_frame s.capacity s.max_blocks page low high NoWatermark) m p).answer ≡ lookup_answer (greatest es page low high)
+  pub find_seen : (page : ℕ) → accepted (after (find_frame s.capacity s.max_blocks page low high None) m p).answer
+      → (after (find_frame s.capacity s.max_blocks page low high None) m p).answer ≡ lookup_answer (greatest es page low high)
   find_seen page = go stands.grown_or_shut
     where
       Gives : Done → Type 0
       Gives d = accepted d.answer → d.answer ≡ lookup_answer (greatest es page low high)
 
-      go : Grown s.capacity s.max_blocks m ⊎ (refusal_of s m ≡ 0 → ⊥) → Gives (after (find_frame s.capacity s.max_blocks page low high NoWatermark) m p)
+      go : Grown s.capacity s.max_blocks m ⊎ (refusal_of s m ≡ 0 → ⊥) → Gives (after (find_frame s.capacity s.max_blocks page low high None) m p)
       go (inl g) =
           find_cases s.capacity s.max_blocks m g p page low high Gives (λ n x. absurd (x turned_away))
           (λ x. ap lookup_answer (view_greatest mark es (entries m) seen.same_view low high most page))
       go (inr shut) =
-          subst Gives (sym (find_refused s.capacity s.max_blocks page low high NoWatermark m m.header m.pages m.frames m.hash p (refusal_of s m) refl shut)) (λ x. absurd (x turned_away))
+          subst Gives (sym (find_refused s.capacity s.max_blocks page low high None m m.header m.pages m.frames m.hash p (refusal_of s m) refl shut)) (λ x. absurd (x turned_away))
 
   -- a list that is not refused is the list of the pairs that are seen
   pub list_seen : (room_pages room_frames : ℕ) → accepted (after (iter_latest_frames s.capacity s.max_blocks low high room_pages room_frames) m p).answer

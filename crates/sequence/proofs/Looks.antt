@@ -2,10 +2,9 @@
 use mathlib.Core.Path.{refl}
 use mathlib.Core.List.{List, []}
 use Prim.Native.Nat.{ℕ}
+use Rattle.std.specs.Prelude.{Option}
 use Rattle.wal_types.specs.Call.{Pair, listed, does}
 use Rattle.wal_types.proofs.Every.{Reads, reads_unless}
-use Rattle.index_find.specs.declared.find.Watermark.{Watermark}
-use Rattle.index_find.specs.declared.find.Lookup.{Lookup}
 use Rattle.index_find.specs.Index.{index_tests, entries_tests}
 use Rattle.index_find.specs.Find.{lookup_answer, find_answer, find_frame}
 use Rattle.list_latest.specs.Latest.{list_tests, pairs_of, listed_entries, iter_latest_frames}
@@ -15,7 +14,7 @@ use Rattle.index_scan.specs.Between.{frame_chosen, frame_between}
 use Rattle.index_scan.specs.Nearest.{nearest, nearest_frame}
 use Rattle.sequence.specs.Sequence.{Settings, LookOp, find_op, list_op, between_op, nearest_op, look}
 
-find_looks : (capacity b page low high : ℕ) (w : Watermark) → Reads (find_frame capacity b page low high w)
+find_looks : (capacity b page low high : ℕ) (w : Option ℕ) → Reads (find_frame capacity b page low high w)
 unfolding find_frame
 find_looks capacity b page low high w = reads_unless (λ m p. index_tests capacity b m) (λ m. does (find_answer page low high w m) (λ z. []) m) (λ m p. (refl, refl))
 
@@ -24,7 +23,7 @@ unfolding iter_latest_frames
 list_looks capacity b low high room_pages room_frames =
     reads_unless (λ m p. list_tests capacity b low high room_pages room_frames m) (λ m. does (listed (pairs_of m (listed_entries low high m))) (λ z. []) m) (λ m p. (refl, refl))
 
-scan_looks : (capacity b : ℕ) (found : List Pair → Lookup) → Reads (scan capacity b found)
+scan_looks : (capacity b : ℕ) (found : List Pair → Option ℕ) → Reads (scan capacity b found)
 scan_looks capacity b found = reads_unless (λ m p. entries_tests capacity b m) (λ m. does (lookup_answer (found (entries m))) (λ z. []) m) (λ m p. (refl, refl))
 
 between_looks : (capacity b page low high choice : ℕ) → Reads (frame_between capacity b page low high choice)

@@ -1,19 +1,18 @@
 -- Every call's tests stand by rising number: their numbers are literals, and each list is compared by computation. A call that passes its tests is not refused: its answer is another one in every case. Assumes nothing.
+use Rattle.std.specs.Prelude.{None, Option, Some}
 use mathlib.Core.Path.{◌≡◌, refl}
 use mathlib.Core.Bool.{Bool, true, false, cond, ◌&&◌}
 use mathlib.Core.List.{List, [], ◌∷◌}
 use Prim.Native.Nat.{ℕ, zero, suc}
 use lib.Dec.{eqb, ltb}
 use lib.ListN.{get_or}
+use Rattle.std.specs.Prelude.{Option, Some, None}
 use Rattle.wal_types.specs.declared.SharedWalOwnershipMode.{SharedWalOwnershipMode}
 use Rattle.wal_types.specs.Memory.{Memory, Process, to_header, no_mark}
 use Rattle.wal_types.specs.Call.{Answer, ok, flag, stored, dropped, none, Outcome, does, if_refused, accepted_or}
 use Rattle.header_publish.specs.Publish.{publish_commit, publish_backfill, bump_checkpoint_seq, bump_checkpoint_epoch}
 use Rattle.header_locks.specs.declared.Lock.{Lock}
 use Rattle.header_locks.specs.Locks.{owner_cell, local_owner_of, with_local_owner, acquires, try_acquire, release}
-use Rattle.index_find.specs.declared.find.Watermark.{Watermark}
-use Rattle.index_find.specs.declared.find.Lookup.{Lookup}
-use Rattle.index_find.specs.declared.find.Lookup.TheVariants.{Frame, NoFrame}
 use Rattle.index_find.specs.Find.{visible, upper, lower, blocks_for, find_in, lookup_answer, find_frame}
 use Rattle.index_end.specs.Place.{started, drops}
 use Rattle.index_record.specs.Record.{drop_stores, enter_stores, records, record_frame}
@@ -22,16 +21,10 @@ use Rattle.list_latest.specs.Latest.{iter_latest_frames}
 use Rattle.index_grown.specs.Entries.{entries}
 use Rattle.index_scan.specs.Between.{frame_chosen, frame_between}
 use Rattle.index_scan.specs.Nearest.{nearest, nearest_frame}
-use Rattle.reader_slots.specs.declared.slots.Slot.{Slot}
-use Rattle.reader_slots.specs.declared.slots.Slot.TheVariants.{At, Nothing}
 use Rattle.reader_register.specs.Register.{slot_answer, chosen_slot, register_reader}
 use Rattle.reader_moves.specs.Update.{releases_slot, update_reader, unregister_reader}
-use Rattle.reader_probe.specs.declared.live.Floor.{Floor}
-use Rattle.reader_probe.specs.declared.live.Floor.TheVariants.{Mark, NoMark}
 use Rattle.reader_floor.specs.Floor.{floor_answer, floor_of, min_active_reader_frame, has_active_db_file_reader}
 use Rattle.reader_limit.specs.Limit.{copy_back_limit}
-use Rattle.reader_marks.specs.declared.Record.{Record}
-use Rattle.reader_marks.specs.declared.Record.TheVariants.{At as AtRecord, Nothing as NoRecord}
 use Rattle.reader_marks.specs.Registry.{one_less, record_of, with_record}
 use Rattle.reader_shared.specs.Shared.{last_holder, shares, unshares, register_reader_for_snapshot, unregister_reader_for_snapshot}
 use Rattle.sequence.specs.Sequence.{Settings, LookOp, IndexOp, HeaderOp, ProbeOp, SlotOp, SharedOp, find_op, list_op, between_op, nearest_op, record_op, rollback_op, acquire_op, unlock_op, backfill_op, seq_op, epoch_op, floor_op, limit_op, db_reader_op, register_op, move_op, release_op, share_op, unshare_op, look_op, index_op, commit_op, header_op, probe_op, slot_op, shared_op}
@@ -55,9 +48,9 @@ one_of : (t : Bool) (x y : Answer) → number_of x ≡ 0 → number_of y ≡ 0 �
 one_of true x y a b = a
 one_of false x y a b = b
 
-of_lookup : (l : Lookup) → number_of (lookup_answer l) ≡ 0
-of_lookup (Frame f) = refl
-of_lookup NoFrame = refl
+of_lookup : (l : Option ℕ) → number_of (lookup_answer l) ≡ 0
+of_lookup (Some f) = refl
+of_lookup None = refl
 
 of_record : (capacity b page frame : ℕ) (grow : Bool) (m : Memory) (p : Process) → number_of (records capacity b page frame grow m p).answer ≡ 0
 of_record capacity b page frame grow m p = go (drops capacity b grow (started frame m.header))
@@ -73,31 +66,31 @@ of_acquire lock owner byte m p =
     (record { answer = flag false; stores = []; process = p })
     refl refl
 
-of_find : (t : Bool) (l : Lookup) → number_of (cond t none (lookup_answer l)) ≡ 0
+of_find : (t : Bool) (l : Option ℕ) → number_of (cond t none (lookup_answer l)) ≡ 0
 of_find t l = one_of t none (lookup_answer l) refl (of_lookup l)
 
-of_slot : (owner mark : ℕ) (c : Slot) → number_of (slot_answer owner mark c) ≡ 0
-of_slot owner mark (At i) = refl
-of_slot owner mark Nothing = refl
+of_slot : (owner mark : ℕ) (c : Option ℕ) → number_of (slot_answer owner mark c) ≡ 0
+of_slot owner mark (Some i) = refl
+of_slot owner mark None = refl
 
-of_floor : (f : Floor) → number_of (floor_answer f) ≡ 0
-of_floor (Mark f) = refl
-of_floor NoMark = refl
+of_floor : (f : Option ℕ) → number_of (floor_answer f) ≡ 0
+of_floor (Some f) = refl
+of_floor None = refl
 
-of_share : (n : ℕ) (mode : SharedWalOwnershipMode) (owner mark : ℕ) (bytes : List ℕ) (r : Record) (m : Memory) (p : Process) → number_of (shares n mode owner mark bytes r m p).answer ≡ 0
-of_share n mode owner mark bytes (AtRecord i) m p = refl
-of_share n mode owner mark bytes NoRecord m p = of_slot owner mark (chosen_slot n mode bytes m p)
+of_share : (n : ℕ) (mode : SharedWalOwnershipMode) (owner mark : ℕ) (bytes : List ℕ) (r : Option ℕ) (m : Memory) (p : Process) → number_of (shares n mode owner mark bytes r m p).answer ≡ 0
+of_share n mode owner mark bytes (Some i) m p = refl
+of_share n mode owner mark bytes None m p = of_slot owner mark (chosen_slot n mode bytes m p)
 
-of_unshare : (mode : SharedWalOwnershipMode) (slot : ℕ) (r : Record) (m : Memory) (p : Process) → number_of (unshares mode slot r m p).answer ≡ 0
-of_unshare mode slot (AtRecord i) m p =
-    either (last_holder p (AtRecord i))
+of_unshare : (mode : SharedWalOwnershipMode) (slot : ℕ) (r : Option ℕ) (m : Memory) (p : Process) → number_of (unshares mode slot r m p).answer ≡ 0
+of_unshare mode slot (Some i) m p =
+    either (last_holder p (Some i))
     (releases_slot mode slot m (with_record p i (one_less (get_or p.registry i no_mark))))
     (record { answer = ok; stores = []; process = with_record p i (one_less (get_or p.registry i no_mark)) })
     refl refl
-of_unshare mode slot NoRecord m p = refl
+of_unshare mode slot None m p = refl
 
 module _ (s : Settings) (m : Memory) (p : Process) where
-  abbrev seen_up_to : ℕ → Watermark → ℕ
+  abbrev seen_up_to : ℕ → Option ℕ → ℕ
   seen_up_to high w = visible m.frames m.header.frame_index_len (upper high w)
 
   looks_in_order : (o : LookOp) → RefusedInOrder s (look_op o) m p

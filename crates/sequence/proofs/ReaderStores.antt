@@ -1,4 +1,5 @@
 -- What the calls on readers store to: the lists of the reader slots, and nothing else. Said of their lists of stores, for whatever holds of a store to one of these. Assumes nothing.
+use Rattle.std.specs.Prelude.{None, Option, Some, is_some}
 use mathlib.Core.Bool.{Bool}
 use mathlib.Core.List.{List, []}
 use Prim.Native.Nat.{ℕ, zero, suc, ◌+◌}
@@ -9,17 +10,12 @@ use Rattle.wal_types.specs.Memory.{Memory, Process, no_mark, SlotPart, Store, to
 use Rattle.wal_types.specs.Store.{one, when}
 use Rattle.wal_types.specs.Call.{ok, flag, value, slot_taken, does}
 use Rattle.wal_types.proofs.Every.{EveryOf, EveryOfCall, every_then, every_when, every_cond, every_unless}
-use Rattle.reader_slots.specs.declared.slots.Slot.{Slot}
-use Rattle.reader_slots.specs.declared.slots.Slot.TheVariants.{At as SlotAt, Nothing as NoSlot}
 use Rattle.reader_slots.specs.Slots.{empty_slot, empty_slots}
-use Rattle.reader_slots.specs.Search.{found_slot}
 use Rattle.reader_register.specs.Register.{reclaim_unless, take_found, first_slot, chosen_slot, registers, register_tests, register_reader}
 use Rattle.reader_moves.specs.Update.{update_tests, update_reader, releases_slot, unregister_reader, release_tests}
 use Rattle.reader_probe.specs.Live.{dead, looked_at}
 use Rattle.reader_floor.specs.Floor.{reclaim_dead, floor_of, floor_answer, probe_tests, db_file_reader_of, min_active_reader_frame, has_active_db_file_reader}
 use Rattle.reader_limit.specs.Limit.{limit_at, copy_back_limit}
-use Rattle.reader_marks.specs.declared.Record.{Record}
-use Rattle.reader_marks.specs.declared.Record.TheVariants.{At, Nothing}
 use Rattle.reader_marks.specs.Registry.{record_of, one_less, with_record}
 use Rattle.reader_shared.specs.Shared.{share_tests, shares, register_reader_for_snapshot, last_holder, unshare_tests, unshares, unregister_reader_for_snapshot}
 
@@ -36,13 +32,13 @@ module _ (P : Store → Type 0) (part : (k : SlotPart) (i v : ℕ) → P (to_slo
 
   -- a registration: slots are reclaimed or not, and one is taken or not
   module _ (n : ℕ) (mode : SharedWalOwnershipMode) (owner mark : ℕ) (bytes : List ℕ) where
-    reclaims : (p : Process) (s : Slot) → EveryOf P (reclaim_unless n mode bytes p s)
-    reclaims p (SlotAt i) m = tt
-    reclaims p NoSlot m = empties_all mode _ n 0 m
+    reclaims : (p : Process) (s : Option ℕ) → EveryOf P (reclaim_unless n mode bytes p s)
+    reclaims p (Some i) m = tt
+    reclaims p None m = empties_all mode _ n 0 m
 
-    takes : (s : Slot) → EveryOf P (take_found owner mark s)
-    takes (SlotAt i) m = (part _ _ _, (part _ _ _, (part _ _ _, tt)))
-    takes NoSlot m = tt
+    takes : (s : Option ℕ) → EveryOf P (take_found owner mark s)
+    takes (Some i) m = (part _ _ _, (part _ _ _, (part _ _ _, tt)))
+    takes None m = tt
 
     registers_stores : EveryOfCall P (registers n mode owner mark bytes)
     registers_stores m p =
@@ -55,9 +51,9 @@ module _ (P : Store → Type 0) (part : (k : SlotPart) (i v : ℕ) → P (to_slo
     register_stores = every_unless P (register_tests n owner mark bytes) (registers n mode owner mark bytes) registers_stores
 
     -- a shared one, by the first record of its mark
-    shares_stores : (r : Record) → EveryOfCall P (shares n mode owner mark bytes r)
-    shares_stores (At i) m p = tt
-    shares_stores Nothing m p = registers_stores m p
+    shares_stores : (r : Option ℕ) → EveryOfCall P (shares n mode owner mark bytes r)
+    shares_stores (Some i) m p = tt
+    shares_stores None m p = registers_stores m p
 
     pub share_stores : EveryOfCall P (register_reader_for_snapshot n mode owner mark bytes)
     unfolding register_reader_for_snapshot
@@ -72,11 +68,11 @@ module _ (P : Store → Type 0) (part : (k : SlotPart) (i v : ℕ) → P (to_slo
   unfolding unregister_reader
   release_stores n mode slot owner = every_unless P (release_tests n mode slot owner) (releases_slot mode slot) (λ m p. empties mode slot m)
 
-  unshares_stores : (mode : SharedWalOwnershipMode) (slot : ℕ) (r : Record) → EveryOfCall P (unshares mode slot r)
-  unshares_stores mode slot (At i) m p =
+  unshares_stores : (mode : SharedWalOwnershipMode) (slot : ℕ) (r : Option ℕ) → EveryOfCall P (unshares mode slot r)
+  unshares_stores mode slot (Some i) m p =
       let less = with_record p i (one_less (get_or p.registry i no_mark)) in
-      every_cond P (last_holder p (At i)) (releases_slot mode slot m less) (record { answer = ok; stores = []; process = less }) (empties mode slot m) tt
-  unshares_stores mode slot Nothing m p = tt
+      every_cond P (last_holder p (Some i)) (releases_slot mode slot m less) (record { answer = ok; stores = []; process = less }) (empties mode slot m) tt
+  unshares_stores mode slot None m p = tt
 
   pub unshare_stores : (n : ℕ) (mode : SharedWalOwnershipMode) (mark slot owner : ℕ) → EveryOfCall P (unregister_reader_for_snapshot n mode mark slot owner)
   unfolding unregister_reader_for_snapshot
@@ -102,5 +98,5 @@ module _ (P : Store → Type 0) (part : (k : SlotPart) (i v : ℕ) → P (to_slo
     unfolding has_active_db_file_reader
     db_reader_stores =
         every_unless P (λ m p. probe_tests n mode bytes (looked_at n (db_file_reader_of n mode bytes m p)) m p)
-        (λ m p. does (flag (found_slot (db_file_reader_of n mode bytes m p))) (reclaim_dead mode bytes p (looked_at n (db_file_reader_of n mode bytes m p))) m p)
+        (λ m p. does (flag (is_some (db_file_reader_of n mode bytes m p))) (reclaim_dead mode bytes p (looked_at n (db_file_reader_of n mode bytes m p))) m p)
         (λ m p. dead_stores p (looked_at n (db_file_reader_of n mode bytes m p)) m)

@@ -1,4 +1,5 @@
 -- The floor and the copy-back limit over a slot with a mark: a slot that they leave is counted. Assumes nothing.
+use Rattle.std.specs.Prelude.{None, Option, Some}
 use mathlib.Core.Path.{◌≡◌, refl, sym, ◌∙◌, subst}
 use mathlib.Core.Bool.{Bool, true, false, not, ◌&&◌, ◌||◌}
 use mathlib.Core.List.{List}
@@ -18,10 +19,9 @@ use Rattle.wal_types.specs.Store.{apply, when}
 use Rattle.wal_types.specs.Refusal.{lowest}
 use Rattle.wal_types.specs.Call.{Call, value, frame_found, turned_away, accepted, Done, after, does}
 use Rattle.wal_types.proofs.Stores.{apply_append}
-use Rattle.reader_probe.specs.declared.live.Floor.{Floor}
-use Rattle.reader_probe.specs.declared.live.Floor.TheVariants.{Mark, NoMark}
 use Rattle.reader_slots.specs.Slots.{held, granted, empty_slot, empty_slots}
 use Rattle.reader_probe.specs.Live.{skipped, dead, live}
+use Rattle.reader_slots.specs.Inner.{lens_of}
 use Rattle.reader_slots.proofs.Calls.{none_applies, enough_by}
 use Rattle.reader_floor.specs.Floor.{floor_of, floor_answer, probe_tests, reclaim_dead, min_active_reader_frame}
 use Rattle.reader_limit.specs.Limit.{limit_of, db_file_is_read, held_back, limit_at, copy_back_limit}
@@ -154,7 +154,7 @@ module _ (n : ℕ) (mode : SharedWalOwnershipMode) (bytes : List ℕ) (m : Memor
     bounded : lowest (probe_tests n mode bytes n m p) ≡ 0 → Stays (apply (reclaim_dead mode bytes p n m) m) → AtMost x (floor_of n mode bytes m p)
     bounded e h =
         let t = none_applies (probe_tests n mode bytes n m p) e in
-        let r = enough_by n (length m.bitmap) (length m.reader_frames) (length m.reader_owners) (length p.local_readers) t.0 t.1.0 in
+        let r = enough_by n (lens_of m.bitmap m.reader_frames m.reader_owners p.local_readers) t.0 t.1.0 in
         floor_at_most mode bytes p m n i x below (is_live h) (get_or_any m.reader_frames i 0 unused (omega arith) ∙ marked) (λ z. (omega arith))
 
     pub floor_bound : accepted (after (min_active_reader_frame n mode bytes) m p).answer → Stays (after (min_active_reader_frame n mode bytes) m p).memory → (f : ℕ) × ((after (min_active_reader_frame n mode bytes) m p).answer ≡ frame_found f) × (f ≤ x)
@@ -165,9 +165,9 @@ module _ (n : ℕ) (mode : SharedWalOwnershipMode) (bytes : List ℕ) (m : Memor
         Bound : Done → Type 0
         Bound d = accepted d.answer → Stays d.memory → (f : ℕ) × (d.answer ≡ frame_found f) × (f ≤ x)
 
-        go : (fl : Floor) → AtMost x fl → (f : ℕ) × (floor_answer fl ≡ frame_found f) × (f ≤ x)
-        go (Mark f) h = (f, refl, h)
-        go NoMark h = absurd h
+        go : (fl : Option ℕ) → AtMost x fl → (f : ℕ) × (floor_answer fl ≡ frame_found f) × (f ≤ x)
+        go (Some f) h = (f, refl, h)
+        go None h = absurd h
 
     pub limit_bound : accepted (after (copy_back_limit n mode bytes) m p).answer → Stays (after (copy_back_limit n mode bytes) m p).memory → (l : ℕ) × ((after (copy_back_limit n mode bytes) m p).answer ≡ value l) × (l ≤ x)
     unfolding copy_back_limit AtMost
@@ -178,8 +178,8 @@ module _ (n : ℕ) (mode : SharedWalOwnershipMode) (bytes : List ℕ) (m : Memor
         Bound d = accepted d.answer → Stays d.memory → (l : ℕ) × (d.answer ≡ value l) × (l ≤ x)
 
         -- a reader of the database file only lowers the limit
-        go : (is_read : Bool) (fl : Floor) → AtMost x fl → held_back is_read m.header.nbackfills (limit_of m.header.max_frame fl) ≤ x
-        go true (Mark f) h = omega arith
-        go false (Mark f) h = omega arith
-        go true NoMark h = absurd h
-        go false NoMark h = absurd h
+        go : (is_read : Bool) (fl : Option ℕ) → AtMost x fl → held_back is_read m.header.nbackfills (limit_of m.header.max_frame fl) ≤ x
+        go true (Some f) h = omega arith
+        go false (Some f) h = omega arith
+        go true None h = absurd h
+        go false None h = absurd h

@@ -1,4 +1,5 @@
 -- Laws of tests that pass, of registries and of cells, for the calls on reader slots. Assumes nothing.
+use Rattle.std.specs.Prelude.{None, Option, Some}
 use mathlib.Core.Path.{◌≡◌, refl, sym, ap, ◌∙◌}
 use mathlib.Core.Bool.{Bool, true, false, not, ◌&&◌, ◌||◌, cond}
 use mathlib.Core.List.{List}
@@ -10,14 +11,10 @@ use lib.ListN.{get_or}
 use borrow.Author.Tests.{eqb-true, eqb-false, eq-eqb, ne_eqb, not-true}
 use Rattle.wal_types.specs.declared.SharedReadMark.{SharedReadMark}
 use Rattle.wal_types.specs.Memory.{Process, no_mark}
-use Rattle.reader_slots.specs.declared.slots.Slot.{Slot}
-use Rattle.reader_slots.specs.declared.slots.Slot.TheVariants.{At as SlotAt, Nothing as NoSlot}
 use Rattle.reader_slots.specs.Slots.{is_in_registry}
 use Rattle.reader_slots.specs.Search.{lowest_slot}
 use Rattle.reader_slots.proofs.Calls.{neither_true}
 use Rattle.reader_slots.proofs.Lowest.{lowest_at, lowest_below, lowest_nothing}
-use Rattle.reader_marks.specs.declared.Record.{Record}
-use Rattle.reader_marks.specs.declared.Record.TheVariants.{At, Nothing}
 use Rattle.reader_marks.specs.Registry.{is_empty, fits, first_record, record_of, empty_record}
 
 pub not_both : (t : Bool) → t ≡ true → t ≡ false → ⊥
@@ -37,11 +34,11 @@ abbrev pub Active : Process → ℕ → Type 0
 Active p j = (rec_at p j).holders ≡ 0 → ⊥
 
 -- the first record that a test picks is found as the lowest slot is
-abbrev as_slot : Record → Slot
-as_slot (At i) = SlotAt i
-as_slot Nothing = NoSlot
+abbrev as_slot : Option ℕ → Option ℕ
+as_slot (Some i) = Some i
+as_slot None = None
 
-first_turn : (t : Bool) (i : ℕ) (r : Record) (s : Slot) → as_slot r ≡ s → as_slot (cond t (At i) r) ≡ cond t (SlotAt i) s
+first_turn : (t : Bool) (i : ℕ) (r : Option ℕ) (s : Option ℕ) → as_slot r ≡ s → as_slot (cond t (Some i) r) ≡ cond t (Some i) s
 first_turn true i r s e = refl
 first_turn false i r s e = e
 
@@ -51,13 +48,13 @@ module _ (test : SharedReadMark → Bool) (registry : List SharedReadMark) where
   first_is_lowest zero i = refl
   first_is_lowest (suc left) i = first_turn (test (get_or registry i no_mark)) i (first_record test registry left (i + 1)) (lowest_slot (λ j. test (get_or registry j no_mark)) left (i + 1)) (first_is_lowest left (i + 1))
 
-  first_at : (n r : ℕ) → first_record test registry n 0 ≡ At r → (r < n) × (test (get_or registry r no_mark) ≡ true)
+  first_at : (n r : ℕ) → first_record test registry n 0 ≡ Some r → (r < n) × (test (get_or registry r no_mark) ≡ true)
   first_at n r e =
       let f = sym (first_is_lowest n 0) ∙ ap as_slot e in
       let b = lowest_below (λ j. test (get_or registry j no_mark)) n 0 r f in
       (omega arith, (lowest_at (λ j. test (get_or registry j no_mark)) n 0 r f).0)
 
-  first_nothing : (n : ℕ) → first_record test registry n 0 ≡ Nothing → (j : ℕ) → j < n → test (get_or registry j no_mark) ≡ false
+  first_nothing : (n : ℕ) → first_record test registry n 0 ≡ None → (j : ℕ) → j < n → test (get_or registry j no_mark) ≡ false
   first_nothing n e j l = lowest_nothing (λ k. test (get_or registry k no_mark)) n 0 (sym (first_is_lowest n 0) ∙ ap as_slot e) j (omega arith) (omega arith)
 
 -- the record of a mark, where there is one
@@ -66,7 +63,7 @@ pub record Fitting (n : ℕ) (p : Process) (k r : ℕ) : Type 0 where
   pub active : Active p r
   pub mark_is : (rec_at p r).mark ≡ k
 
-pub record_found : (n : ℕ) (p : Process) (k r : ℕ) → record_of n p.registry k ≡ At r → Fitting n p k r
+pub record_found : (n : ℕ) (p : Process) (k r : ℕ) → record_of n p.registry k ≡ Some r → Fitting n p k r
 record_found n p k r e =
     let a = first_at (fits k) p.registry n r e in
     let b = both_true (not (is_empty (rec_at p r))) (eqb (rec_at p r).mark k) a.1 in
@@ -76,12 +73,12 @@ record_found n p k r e =
 abbrev pub NoRecord : ℕ → Process → ℕ → Type 0
 NoRecord n p k = (j : ℕ) → j < n → Active p j → (rec_at p j).mark ≡ k → ⊥
 
-pub record_missing : (n : ℕ) (p : Process) (k : ℕ) → record_of n p.registry k ≡ Nothing → NoRecord n p k
+pub record_missing : (n : ℕ) (p : Process) (k : ℕ) → record_of n p.registry k ≡ None → NoRecord n p k
 record_missing n p k e j l a h =
     not_both (fits k (rec_at p j)) (rw (ne_eqb _ _ a, eq-eqb _ _ h)) (first_nothing (fits k) p.registry n e j l)
 
 -- an empty record
-pub empty_found : (n : ℕ) (p : Process) (e : ℕ) → empty_record n p.registry ≡ At e → (e < n) × ((rec_at p e).holders ≡ 0)
+pub empty_found : (n : ℕ) (p : Process) (e : ℕ) → empty_record n p.registry ≡ Some e → (e < n) × ((rec_at p e).holders ≡ 0)
 empty_found n p e f = let a = first_at is_empty p.registry n e f in (a.0, eqb-true _ _ a.1)
 
 -- a slot that refusal 11 does not find is named by no record

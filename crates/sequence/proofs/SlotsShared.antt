@@ -1,4 +1,5 @@
 -- The changes that shared registrations and releases make. Assumes nothing.
+use Rattle.std.specs.Prelude.{None, Option, Some}
 use mathlib.Core.Path.{◌≡◌, refl, ap, ◌∙◌, subst}
 use mathlib.Core.Bool.{Bool, true, false, cond}
 use mathlib.Core.List.{List, []}
@@ -14,16 +15,12 @@ use Rattle.wal_types.specs.Memory.{Memory, Process, no_mark}
 use Rattle.wal_types.specs.Refusal.{lowest}
 use Rattle.wal_types.specs.Call.{Answer, refused, ok, slot_taken, none, if_slot, Done, done, after}
 use Rattle.wal_types.proofs.Refusals.{call_accepted}
-use Rattle.reader_slots.specs.declared.slots.Slot.{Slot}
-use Rattle.reader_slots.specs.declared.slots.Slot.TheVariants.{At as SlotAt, Nothing as NoSlot}
 use Rattle.reader_slots.specs.Slots.{short_slots, with_local}
 use Rattle.reader_register.specs.Register.{chosen_slot, slot_answer, hold_found, registers, register_tests, register_reader}
 use Rattle.reader_moves.specs.Update.{releases_slot}
 use Rattle.reader_slots.proofs.Kept.{slot_same, emptied_other}
 use Rattle.reader_slots.proofs.Calls.{none_applies, neither_true}
 use Rattle.reader_register.proofs.Taken.{TookSlot, register_took}
-use Rattle.reader_marks.specs.declared.Record.{Record}
-use Rattle.reader_marks.specs.declared.Record.TheVariants.{At, Nothing}
 use Rattle.reader_marks.specs.Registry.{record_of, empty_record, one_more, one_less, with_record}
 use Rattle.reader_shared.specs.Shared.{no_room, share_tests, new_record, shares, register_reader_for_snapshot, registered, unshare_tests, unshares, unregister_reader_for_snapshot}
 use Rattle.sequence.specs.Sequence.{share_op, unshare_op, shared_op}
@@ -50,14 +47,14 @@ pub record Opening (n owner mark t r : ℕ) (m : Memory) (p : Process) (d : Done
   pub stay : HeldStay p d.process
 
 module _ (n : ℕ) (mode : SharedWalOwnershipMode) (owner mark : ℕ) (bytes : List ℕ) (m : Memory) (p : Process) where
-  abbrev chosen : Slot
+  abbrev chosen : Option ℕ
   chosen = chosen_slot n mode bytes m p
 
   -- the memory that a registration leaves
   abbrev taken : Memory
   taken = (after (registers n mode owner mark bytes) m p).memory
 
-  abbrev sharing : Record → Done
+  abbrev sharing : Option ℕ → Done
   sharing r = after (λ x q. shares n mode owner mark bytes r x q) m p
 
   module _ (passes : lowest (share_tests n mode owner mark bytes m p) ≡ 0) where
@@ -76,18 +73,18 @@ module _ (n : ℕ) (mode : SharedWalOwnershipMode) (owner mark : ℕ) (bytes : L
     taken_held = subst (λ (d : Done). HeldKept m p d.memory) registers_too (register_held n mode owner mark bytes m p)
 
     -- an empty record is there for a slot that is found
-    never_full : (t : ℕ) → record_of n p.registry mark ≡ Nothing → chosen ≡ SlotAt t → empty_record n p.registry ≡ Nothing → ⊥
+    never_full : (t : ℕ) → record_of n p.registry mark ≡ None → chosen ≡ Some t → empty_record n p.registry ≡ None → ⊥
     never_full t q c e =
         let a = none_applies (share_tests n mode owner mark bytes m p) passes in
-        let full : no_room n mode bytes m p Nothing ≡ false = rw q at a.1.1.1.1.0 in
-        not_both (no_room n mode bytes m p Nothing) (rw (a.1.1.1.1.1.0, c, e)) full
+        let full : no_room n mode bytes m p None ≡ false = rw q at a.1.1.1.1.0 in
+        not_both (no_room n mode bytes m p None) (rw (a.1.1.1.1.1.0, c, e)) full
 
-    opening : (t r : ℕ) → chosen ≡ SlotAt t → empty_record n p.registry ≡ At r → Opening n owner mark t r m p (done (slot_answer owner mark (SlotAt t)) taken (new_record owner mark (SlotAt t) (At r) (hold_found owner p (SlotAt t))))
+    opening : (t r : ℕ) → chosen ≡ Some t → empty_record n p.registry ≡ Some r → Opening n owner mark t r m p (done (slot_answer owner mark (Some t)) taken (new_record owner mark (Some t) (Some r) (hold_found owner p (Some t))))
     opening t r c e =
         let place = empty_found n p r e in
         let room = registry_room in
         let took = (register_took n mode owner mark bytes m p t owner mark (ap (λ (d : Done). d.answer) registers_too ∙ ap (slot_answer owner mark) c)).1.1 in
-        let process : (register_done n mode owner mark bytes m p).process ≡ hold_found owner p (SlotAt t) = ap (λ (d : Done). d.process) registers_too ∙ ap (hold_found owner p) c in
+        let process : (register_done n mode owner mark bytes m p).process ≡ hold_found owner p (Some t) = ap (λ (d : Done). d.process) registers_too ∙ ap (hold_found owner p) c in
         let new = get_or-set_same p.registry r (record { mark = mark; slot = t; owner = record { 0 = owner }; holders = 1 }) no_mark (omega (arith, place.0)) in
         record {
           took =
@@ -112,15 +109,15 @@ module _ (n : ℕ) (mode : SharedWalOwnershipMode) (owner mark : ℕ) (bytes : L
         }
 
     -- cases on the mark's record, the slot found and the empty record
-    module _ (P : Done → Type 0) (at_record : (r : ℕ) → record_of n p.registry mark ≡ At r → P (sharing (At r))) (no_slot : P (done none taken p)) (at_slot : (t r : ℕ) → NoRecord n p mark → Opening n owner mark t r m p (done (slot_taken t owner mark) taken (new_record owner mark (SlotAt t) (At r) (hold_found owner p (SlotAt t)))) → P (done (slot_taken t owner mark) taken (new_record owner mark (SlotAt t) (At r) (hold_found owner p (SlotAt t))))) where
-      with_slot : record_of n p.registry mark ≡ Nothing → (s : Slot) → chosen ≡ s → (e : Record) → empty_record n p.registry ≡ e → P (done (slot_answer owner mark s) taken (new_record owner mark s e (hold_found owner p s)))
-      with_slot q (SlotAt t) c (At r) e = at_slot t r (record_missing n p mark q) (opening t r c e)
-      with_slot q (SlotAt t) c Nothing e = absurd (never_full t q c e)
-      with_slot q NoSlot c e f = no_slot
+    module _ (P : Done → Type 0) (at_record : (r : ℕ) → record_of n p.registry mark ≡ Some r → P (sharing (Some r))) (no_slot : P (done none taken p)) (at_slot : (t r : ℕ) → NoRecord n p mark → Opening n owner mark t r m p (done (slot_taken t owner mark) taken (new_record owner mark (Some t) (Some r) (hold_found owner p (Some t)))) → P (done (slot_taken t owner mark) taken (new_record owner mark (Some t) (Some r) (hold_found owner p (Some t))))) where
+      with_slot : record_of n p.registry mark ≡ None → (s : Option ℕ) → chosen ≡ s → (e : Option ℕ) → empty_record n p.registry ≡ e → P (done (slot_answer owner mark s) taken (new_record owner mark s e (hold_found owner p s)))
+      with_slot q (Some t) c (Some r) e = at_slot t r (record_missing n p mark q) (opening t r c e)
+      with_slot q (Some t) c None e = absurd (never_full t q c e)
+      with_slot q None c e f = no_slot
 
-      by_record : (r : Record) → record_of n p.registry mark ≡ r → P (sharing r)
-      by_record (At r) q = at_record r q
-      by_record Nothing q = with_slot q chosen refl (empty_record n p.registry) refl
+      by_record : (r : Option ℕ) → record_of n p.registry mark ≡ r → P (sharing r)
+      by_record (Some r) q = at_record r q
+      by_record None q = with_slot q chosen refl (empty_record n p.registry) refl
 
   abbrev pub share_done : Done
   share_done = after (register_reader_for_snapshot n mode owner mark bytes) m p
@@ -140,13 +137,13 @@ module _ (n : ℕ) (mode : SharedWalOwnershipMode) (owner mark : ℕ) (bytes : L
       never : {A : Type 0} (a : Answer) → a ≡ slot_taken i o mark → if_slot (λ t x k. true) false a ≡ false → A
       never a e f = absurd (not_both (if_slot (λ t x k. true) false a) (rw e) f)
 
-      at_record : (r : ℕ) → record_of n p.registry mark ≡ At r → Opens (sharing (At r))
+      at_record : (r : ℕ) → record_of n p.registry mark ≡ Some r → Opens (sharing (Some r))
       at_record r q e = let f = record_found n p mark r q in absurd (new r f.below f.active f.mark_is)
 
-      at_slot : (t r : ℕ) → NoRecord n p mark → Opening n owner mark t r m p (done (slot_taken t owner mark) taken (new_record owner mark (SlotAt t) (At r) (hold_found owner p (SlotAt t)))) → Opens (done (slot_taken t owner mark) taken (new_record owner mark (SlotAt t) (At r) (hold_found owner p (SlotAt t))))
+      at_slot : (t r : ℕ) → NoRecord n p mark → Opening n owner mark t r m p (done (slot_taken t owner mark) taken (new_record owner mark (Some t) (Some r) (hold_found owner p (Some t)))) → Opens (done (slot_taken t owner mark) taken (new_record owner mark (Some t) (Some r) (hold_found owner p (Some t))))
       at_slot t r free o e =
           let same : t ≡ i = cc in
-          (r, subst (λ (x : ℕ). Opening n owner mark x r m p (done (slot_taken t owner mark) taken (new_record owner mark (SlotAt t) (At r) (hold_found owner p (SlotAt t))))) same o)
+          (r, subst (λ (x : ℕ). Opening n owner mark x r m p (done (slot_taken t owner mark) taken (new_record owner mark (Some t) (Some r) (hold_found owner p (Some t))))) same o)
 
   -- the change that a shared registration makes
   module _ (E : ℕ → ℕ → Type 0) where
@@ -161,13 +158,13 @@ module _ (n : ℕ) (mode : SharedWalOwnershipMode) (owner mark : ℕ) (bytes : L
         share_cases ShareStep (λ k. nothing_done n m p (ShareCount (refused k)) E (λ j c. either_way (eqb mark j) c) (refused k))
         (λ passes. by_record passes ShareStep (at_record passes) (quiet (λ j c. either_way (eqb mark j) c) (taken_held passes) (λ j h. h) (λ j. refl)) at_slot (record_of n p.registry mark) refl)
       where
-        at_record : lowest (share_tests n mode owner mark bytes m p) ≡ 0 → (r : ℕ) → record_of n p.registry mark ≡ At r → ShareStep (sharing (At r))
+        at_record : lowest (share_tests n mode owner mark bytes m p) ≡ 0 → (r : ℕ) → record_of n p.registry mark ≡ Some r → ShareStep (sharing (Some r))
         at_record passes r q =
             let f = record_found n p mark r q in
             let room = registry_room passes in
             joined r mark (λ j c. refl) f (get_or-set_same p.registry r (one_more (rec_at p r)) no_mark (omega arith)) (λ j g. get_or-set_other p.registry r j (one_more (rec_at p r)) no_mark g) (λ j h. slot_same j m) (λ j h. h)
 
-        at_slot : (t r : ℕ) → NoRecord n p mark → Opening n owner mark t r m p (done (slot_taken t owner mark) taken (new_record owner mark (SlotAt t) (At r) (hold_found owner p (SlotAt t)))) → ShareStep (done (slot_taken t owner mark) taken (new_record owner mark (SlotAt t) (At r) (hold_found owner p (SlotAt t))))
+        at_slot : (t r : ℕ) → NoRecord n p mark → Opening n owner mark t r m p (done (slot_taken t owner mark) taken (new_record owner mark (Some t) (Some r) (hold_found owner p (Some t)))) → ShareStep (done (slot_taken t owner mark) taken (new_record owner mark (Some t) (Some r) (hold_found owner p (Some t))))
         at_slot t r free o =
             opened r mark t (λ j c. refl) o.record_below o.was_empty free o.mark_is o.slot_is o.holders_is o.others o.took.was_free
             (rw (o.took.local_is, ne_eqb owner 0 o.took.owned)) o.kept o.stay
@@ -202,8 +199,8 @@ module _ (n : ℕ) (mode : SharedWalOwnershipMode) (mark slot owner : ℕ) (m : 
           let room = registry_long e in
           left r mark (λ j c. refl) f (eqb-false (rec_at p r).holders 1 l) (get_or-set_same p.registry r (one_less (rec_at p r)) no_mark (omega arith)) (λ j g. get_or-set_other p.registry r j (one_less (rec_at p r)) no_mark g) (λ j h. slot_same j m) (λ j h. h)
 
-      by_record : lowest (unshare_tests n mode mark slot owner m p) ≡ 0 → (r : Record) → record_of n p.registry mark ≡ r → UnshareStep (after (λ x q. unshares mode slot r x q) m p)
-      by_record e (At r) q =
-          let k : registered slot owner p (At r) ≡ true = rw q at (known e) in
+      by_record : lowest (unshare_tests n mode mark slot owner m p) ≡ 0 → (r : Option ℕ) → record_of n p.registry mark ≡ r → UnshareStep (after (λ x q. unshares mode slot r x q) m p)
+      by_record e (Some r) q =
+          let k : registered slot owner p (Some r) ≡ true = rw q at (known e) in
           by_last e r (record_found n p mark r q) (eqb-true (rec_at p r).slot slot (both_true (eqb (rec_at p r).slot slot) (eqb (rec_at p r).owner.0 owner) k).0) (eqb (rec_at p r).holders 1) refl
-      by_record e Nothing q = absurd (not_both false (rw q at (known e)) refl)
+      by_record e None q = absurd (not_both false (rw q at (known e)) refl)

@@ -1,4 +1,5 @@
 -- What a call does to its own process's slots and registry: one of seven changes. Assumes nothing.
+use Rattle.std.specs.Prelude.{None, Option, Some, is_some}
 use mathlib.Core.Path.{◌≡◌, refl}
 use mathlib.Core.Bool.{true, false, ◌||◌, cond}
 use mathlib.Core.List.{List}
@@ -14,14 +15,11 @@ use Rattle.wal_types.specs.Memory.{Memory, Process, to_reader_frame}
 use Rattle.wal_types.specs.Store.{one}
 use Rattle.wal_types.specs.Refusal.{Test, lowest}
 use Rattle.wal_types.specs.Call.{Answer, refused, flag, value, slot_taken, Done, done, after, does, unless}
-use Rattle.reader_slots.specs.declared.slots.Slot.{Slot}
-use Rattle.reader_slots.specs.declared.slots.Slot.TheVariants.{At as SlotAt, Nothing as NoSlot}
 use Rattle.reader_slots.specs.Slots.{held, with_local}
 use Rattle.reader_register.specs.Register.{chosen_slot, registers, register_tests, register_reader, hold_found}
 use Rattle.reader_moves.specs.Update.{update_tests, update_reader, release_tests, unregister_reader, releases_slot}
 use Rattle.reader_floor.specs.Floor.{floor_of, floor_answer, probe_tests, reclaim_dead, min_active_reader_frame, has_active_db_file_reader, db_file_reader_of}
 use Rattle.reader_probe.specs.Live.{looked_at}
-use Rattle.reader_slots.specs.Search.{found_slot}
 use Rattle.reader_limit.specs.Limit.{limit_at, copy_back_limit}
 use Rattle.reader_slots.proofs.Kept.{SlotSame, slot_same, emptied_other}
 use Rattle.reader_floor.proofs.Kept.{dead_keeps}
@@ -113,7 +111,7 @@ module _ (n : ℕ) (mode : SharedWalOwnershipMode) (bytes : List ℕ) (m : Memor
   pub db_reader_step : Step n m p (after (has_active_db_file_reader n mode bytes) m p) T E
   unfolding has_active_db_file_reader
   db_reader_step =
-      probes (λ x q. probe_tests n mode bytes (looked_at n (db_file_reader_of n mode bytes x q)) x q) (λ x q. flag (found_slot (db_file_reader_of n mode bytes x q))) (λ x q. looked_at n (db_file_reader_of n mode bytes x q))
+      probes (λ x q. probe_tests n mode bytes (looked_at n (db_file_reader_of n mode bytes x q)) x q) (λ x q. flag (is_some (db_file_reader_of n mode bytes x q))) (λ x q. looked_at n (db_file_reader_of n mode bytes x q))
 
 -- the local owner of another slot
 pub other_held : (t v : ℕ) (p p' : Process) → p'.local_readers ≡ set p.local_readers t v → OthersHeld t p p'
@@ -130,9 +128,9 @@ module _ (n : ℕ) (mode : SharedWalOwnershipMode) (owner mark : ℕ) (bytes : L
   pub register_stay : HeldStay p register_done.process
   register_stay j h = rw (register_keeps n mode owner mark bytes m p j h).1 h
 
-  hold_records : (s : Slot) → (hold_found owner p s).registry ≡ p.registry
-  hold_records (SlotAt t) = refl
-  hold_records NoSlot = refl
+  hold_records : (s : Option ℕ) → (hold_found owner p s).registry ≡ p.registry
+  hold_records (Some t) = refl
+  hold_records None = refl
 
   pub register_records : register_done.process.registry ≡ p.registry
   unfolding register_reader

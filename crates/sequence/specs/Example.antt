@@ -1,11 +1,10 @@
 -- A sequence of calls by two processes, with what each call answers: demand 3's premises hold in it. Assumes nothing.
-use Rattle.std.specs.Prelude.{◌≡◌, false, List, [], ◌∷◌, ◌++◌, ℕ, replicate}
+use Rattle.std.specs.Prelude.{None, ◌≡◌, false, List, [], ◌∷◌, ◌++◌, ℕ, replicate}
 use Rattle.wal_types.specs.declared.SharedWalOwnershipMode.TheVariants.{LinuxOfd}
 use Rattle.wal_types.specs.Settings.{unused}
 use Rattle.wal_types.specs.Memory.{Memory, Process, with_header, with_index, with_slots, with_local_readers, with_registry, no_mark, blank_memory, blank_process}
 use Rattle.wal_types.specs.Fresh.{fresh_header}
 use Rattle.wal_types.specs.Call.{pair, Answer, refused, ok, value, stored, kept, frame_found, listed, slot_taken}
-use Rattle.index_find.specs.declared.find.Watermark.TheVariants.{NoWatermark}
 use Rattle.sequence.specs.Sequence.{Settings, find_op, list_op, between_op, record_op, rollback_op, backfill_op, floor_op, limit_op, register_op, release_op, share_op, unshare_op, Op, look_op, index_op, commit_op, header_op, probe_op, slot_op, shared_op, World, Event, by, answer_of, next}
 use Rattle.sequence.specs.Hold.{direct, shared}
 use Rattle.sequence.specs.Statement.{at_now, Premises}
@@ -76,7 +75,7 @@ answered now = answer_of small now (at_now small 1 fresh_world before begin duri
 
 -- a lookup of page 7, a list, and a search for page 7 by a choice, all up to 3, by the reader; a floor and a copy-back limit by the writer, slot 0 busy
 abbrev pub lookup : Event
-lookup = reader (look_op (find_op 7 1 3 NoWatermark))
+lookup = reader (look_op (find_op 7 1 3 None))
 
 abbrev pub listing : Event
 listing = reader (look_op (list_op 1 3 8 8))
@@ -113,7 +112,7 @@ pub record Example : Type 0 where
   pub calls_answer :
       answers small (before ++ (begin ∷ during)) fresh_world
       ≡ stored ∷ stored ∷ stored ∷ ok ∷ slot_taken 0 10 3 ∷ refused 7 ∷ stored ∷ stored ∷ stored ∷ kept 5 ∷ ok ∷ []
-  pub newest_is_5 : answered (reader (look_op (find_op 7 1 5 NoWatermark))) ≡ frame_found 5
+  pub newest_is_5 : answered (reader (look_op (find_op 7 1 5 None))) ≡ frame_found 5
   pub lookup_held : Held lookup
   pub lookup_gives : answered lookup ≡ frame_found 3
   pub list_held : Held listing

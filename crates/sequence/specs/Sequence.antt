@@ -1,5 +1,5 @@
 -- Sequences of calls by any processes, from fresh memory (document 01, "Sequence"). Each step is the definition that the call's contract cites. Assumes nothing.
-use Rattle.std.specs.Prelude.{Bool, cond, List, [], ◌∷◌, ℕ, eqb}
+use Rattle.std.specs.Prelude.{Option, Bool, cond, List, [], ◌∷◌, ℕ, eqb}
 use Rattle.wal_types.specs.declared.SharedWalOwnershipMode.{SharedWalOwnershipMode}
 use Rattle.wal_types.specs.Memory.{Memory, Process}
 use Rattle.wal_types.specs.Call.{Call, Answer, after}
@@ -7,7 +7,6 @@ use Rattle.wal_types.specs.Fresh.{Fresh, FreshProcess}
 use Rattle.header_locks.specs.declared.Lock.{Lock}
 use Rattle.header_publish.specs.Publish.{publish_commit, publish_backfill, bump_checkpoint_seq, bump_checkpoint_epoch}
 use Rattle.header_locks.specs.Locks.{try_acquire, release}
-use Rattle.index_find.specs.declared.find.Watermark.{Watermark}
 use Rattle.index_record.specs.Record.{record_frame}
 use Rattle.index_record.specs.Rollback.{rollback_frames}
 use Rattle.index_find.specs.Find.{find_frame}
@@ -33,7 +32,7 @@ pub record Settings : Type 0 where
 
 -- Calls that only look: they change nothing.
 pub data LookOp : Type 0 where
-  find_op : (page low high : ℕ) (w : Watermark) → LookOp
+  find_op : (page low high : ℕ) (w : Option ℕ) → LookOp
   list_op : (low high room_pages room_frames : ℕ) → LookOp
   between_op : (page low high choice : ℕ) → LookOp
   nearest_op : (page to : ℕ) → LookOp

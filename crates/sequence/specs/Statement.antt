@@ -1,7 +1,6 @@
 -- Demand 3, as one statement. Assumes nothing.
-use Rattle.std.specs.Prelude.{◌≡◌, List, [], ◌∷◌, ◌++◌, ℕ, ◌≤◌}
+use Rattle.std.specs.Prelude.{None, ◌≡◌, List, [], ◌∷◌, ◌++◌, ℕ, ◌≤◌}
 use Rattle.wal_types.specs.Call.{Pair, Answer, value, frame_found, listed, accepted}
-use Rattle.index_find.specs.declared.find.Watermark.TheVariants.{NoWatermark}
 use Rattle.index_find.specs.Find.{lookup_answer}
 use Rattle.index_grown.specs.Entries.{greatest}
 use Rattle.index_grown.specs.Listed.{IsListOf}
@@ -48,7 +47,7 @@ module _ (s : Settings) (start : ℕ) (fresh : World) (before : List Event) (beg
   -- answers by document 01's book as it stood when the hold began".
   pub record Owed (op : Op) (a : Answer) : Type 0 where
     -- "a lookup gives the greatest indexed frame of the page within the bounds, or none"
-    pub lookup_owed : (page low high : ℕ) → op ≡ look_op (find_op page low high NoWatermark) → high ≤ m → accepted a → a ≡ lookup_answer (greatest book.pairs page low high)
+    pub lookup_owed : (page low high : ℕ) → op ≡ look_op (find_op page low high None) → high ≤ m → accepted a → a ≡ lookup_answer (greatest book.pairs page low high)
     -- "a list gives each page that has such a frame, and no other, once, with the greatest, by rising page"
     pub list_owed : (low high room_pages room_frames : ℕ) → op ≡ look_op (list_op low high room_pages room_frames) → high ≤ m → accepted a → (l : List Pair) × (a ≡ listed l) × IsListOf book.pairs low high l
     -- a search between two frames up to m, too, gives by the book what its choice gives. Nothing is owed of a nearest frame: one

@@ -7,12 +7,36 @@ use mathlib.Core.Logic.{inl, inr}
 use Prim.Native.Nat.{ℕ, zero, suc, ◌<◌}
 use native.Mathlib.Nat.{not-suc-le-zero}
 use native.Mathlib.Omega.{arith}
+use Rattle.std.proofs.Math.Nat.{suc-ne-zero}
 use lib.Dec.{ltb}
 use borrow.Author.Tests.{ltb-true}
 use Rattle.wal_types.specs.Memory.{Memory, Process}
 use Rattle.wal_types.specs.Store.{apply}
+use Rattle.wal_types.specs.declared.refusal.Refusal.{Refusal}
+use Rattle.wal_types.specs.declared.refusal.Refusal.TheVariants.{Settings, ShortMemory, FrameOrder, HashFull, ShortList, SlotNumber, NotHeld, OtherOwner, NoOwner, UnusedMark, SharedSlot, NoSuchMark, RegistryFull, Card, Probe}
 use Rattle.wal_types.specs.Refusal.{Test, number, lowest, rising_from, rising, IsLowest}
 use Rattle.wal_types.specs.Call.{Call, Outcome, refused, refusal, accepted_or, unless, done, after}
+
+-- a refusal's number is not 0
+number_above_zero : (r : Refusal) → (k : ℕ) × (number r ≡ suc k)
+number_above_zero Settings = (0, refl)
+number_above_zero ShortMemory = (1, refl)
+number_above_zero FrameOrder = (2, refl)
+number_above_zero HashFull = (3, refl)
+number_above_zero ShortList = (4, refl)
+number_above_zero SlotNumber = (5, refl)
+number_above_zero NotHeld = (6, refl)
+number_above_zero OtherOwner = (7, refl)
+number_above_zero NoOwner = (8, refl)
+number_above_zero UnusedMark = (9, refl)
+number_above_zero SharedSlot = (10, refl)
+number_above_zero NoSuchMark = (11, refl)
+number_above_zero RegistryFull = (12, refl)
+number_above_zero Card = (13, refl)
+number_above_zero Probe = (14, refl)
+
+pub number_not_zero : (r : Refusal) → number r ≡ 0 → ⊥
+number_not_zero r e = let k = number_above_zero r in suc-ne-zero k.0 (sym k.1 ∙ e)
 
 -- a number that is not 0 refuses
 pub refuses : (n : ℕ) (p : Process) (o : Outcome) → (n ≡ 0 → ⊥) → accepted_or n p o ≡ refusal n p
@@ -28,6 +52,10 @@ module _ (tests : Memory → Process → List Test) (call : Call) (m : Memory) (
   pub call_refused : (n : ℕ) → lowest (tests m p) ≡ n → (n ≡ 0 → ⊥) → after (unless tests call) m p ≡ done (refused n) m p
   call_refused n e h =
       same_outcome (unless tests call m p) _ m (ap (λ (x : ℕ). accepted_or x p (call m p)) e ∙ refuses n p (call m p) h)
+
+  -- so is one that a check of its tests turns away
+  pub call_turned_away : (r : Refusal) → number r ≡ lowest (tests m p) → after (unless tests call) m p ≡ done (refused (number r)) m p
+  call_turned_away r e = call_refused (number r) (sym e) (number_not_zero r)
 
   -- one of which none applies is made
   pub call_accepted : lowest (tests m p) ≡ 0 → after (unless tests call) m p ≡ after call m p

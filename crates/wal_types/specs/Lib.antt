@@ -3,5 +3,6 @@ pub mod Settings
 pub mod Memory
 pub mod Store
 pub mod Refusal
+pub mod Mode
 pub mod Call
 pub mod Fresh

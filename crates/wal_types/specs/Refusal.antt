@@ -1,27 +1,31 @@
--- The refusals (document 01's table): their words and numbers, and which of them a call gives. Assumes nothing.
-use Rattle.std.specs.Prelude.{◌≡◌, Bool, true, false, ◌&&◌, cond, ℕ, ◌≤◌, ltb}
+-- The refusals (document 01's table): their numbers, and which of them a call gives. Assumes nothing.
+use Rattle.std.specs.Prelude.{◌≡◌, Result, Ok, Err, Bool, true, false, ◌&&◌, cond, ℕ, ◌≤◌, ltb}
 use mathlib.Core.List.{List, [], ◌∷◌, Memᴰ}
-
-pub data Refusal : Type 0 where
-  settings short_memory frame_order hash_full short_list slot_number not_held other_owner no_owner unused_mark shared_slot no_such_mark registry_full card probe : Refusal
+use Rattle.wal_types.specs.declared.refusal.Refusal.{Refusal}
+use Rattle.wal_types.specs.declared.refusal.Refusal.TheVariants.{Settings, ShortMemory, FrameOrder, HashFull, ShortList, SlotNumber, NotHeld, OtherOwner, NoOwner, UnusedMark, SharedSlot, NoSuchMark, RegistryFull, Card, Probe}
 
 -- the table's number
 abbrev pub number : Refusal → ℕ
-number settings = 1
-number short_memory = 2
-number frame_order = 3
-number hash_full = 4
-number short_list = 5
-number slot_number = 6
-number not_held = 7
-number other_owner = 8
-number no_owner = 9
-number unused_mark = 10
-number shared_slot = 11
-number no_such_mark = 12
-number registry_full = 13
-number card = 14
-number probe = 15
+number Settings = 1
+number ShortMemory = 2
+number FrameOrder = 3
+number HashFull = 4
+number ShortList = 5
+number SlotNumber = 6
+number NotHeld = 7
+number OtherOwner = 8
+number NoOwner = 9
+number UnusedMark = 10
+number SharedSlot = 11
+number NoSuchMark = 12
+number RegistryFull = 13
+number Card = 14
+number Probe = 15
+
+-- The number of the refusal in a result, 0 where it has none.
+abbrev pub refused_number : {A : Type 0} → Result A Refusal → ℕ
+refused_number (Ok x) = 0
+refused_number (Err r) = number r
 
 -- A refusal, and whether it applies to the call.
 pub record Test : Type 0 where

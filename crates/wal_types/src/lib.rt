@@ -5,6 +5,10 @@
 pub mod refusal;
 
 ghost use Rattle.std.specs.Prelude.{◌≡◌, ◌+◌, ◌*◌, ◌/◌, ◌%◌, ◌^◌};
+ghost use Rattle.wal_types.specs.Settings.{is_fcntl};
+ghost use Rattle.wal_types.specs.Mode.{mode_given};
+
+use refusal::Refusal;
 
 // The frame of a reader slot that holds no mark (document 01: UNUSED).
 pub const UNUSED_READER_FRAME: u64 = 18446744073709551615;
@@ -23,7 +27,7 @@ pub const FRAME_INDEX_BLOCK_HASH_SLOTS: u32 = 8192;
 // A connection, as it stands in owner cells: its process id in the high 32 bits, its instance id in the low 32.
 // It is a type of its own so that an owner is never passed as a mark.
 #[repr(C)]
-#[derive(Clone, Copy)]
+#[derive(Clone, Copy, PartialEq, Eq)]
 pub struct SharedOwnerRecord(pub u64);
 
 impl SharedOwnerRecord {
@@ -53,10 +57,37 @@ impl SharedOwnerRecord {
 }
 
 // The locking primitive behind the slots and the two locks.
-#[derive(Clone, Copy)]
+#[derive(Clone, Copy, PartialEq, Eq)]
 pub enum SharedWalOwnershipMode {
     LinuxOfd,
     ProcessScopedFcntl,
+}
+
+impl SharedWalOwnershipMode {
+    // Whether the mode is ProcessScopedFcntl.
+    pub fn is_fcntl(self) -> bool
+        ensures { result ≡ is_fcntl self }
+    {
+        self == SharedWalOwnershipMode::ProcessScopedFcntl
+    }
+}
+
+// 0 is LinuxOfd and 1 ProcessScopedFcntl. Another number is a setting out of its limits.
+impl TryFrom<u32> for SharedWalOwnershipMode {
+    type Error = Refusal;
+
+    ghost try_from_gives = { λ mode result. result ≡ mode_given mode };
+
+    #[tactic(auto, unfolding(crate::specs::Mode::mode_given))]
+    fn try_from(mode: u32) -> Result<Self, Refusal> {
+        if mode == 0 {
+            return Ok(SharedWalOwnershipMode::LinuxOfd);
+        }
+        if mode == 1 {
+            return Ok(SharedWalOwnershipMode::ProcessScopedFcntl);
+        }
+        Err(Refusal::Settings)
+    }
 }
 
 // The header's cells, in the source's order. The source's further cells (magic, layout numbers, the snapshot

@@ -1,31 +1,30 @@
-// The refusals' numbers, by name (specs/Refusal.antt has the table that contracts cite: a wrong number here is refused
-// by every proof that meets it).
-pub const SETTINGS: u32 = 1;
+// Why a call is turned away. The numbers are those of document 01's table.
+ghost use Rattle.std.specs.Prelude.{◌≡◌};
+ghost use Rattle.wal_types.specs.Refusal.{number};
 
-pub const SHORT_MEMORY: u32 = 2;
+#[derive(Clone, Copy, PartialEq, Eq)]
+pub enum Refusal {
+    Settings = 1,
+    ShortMemory = 2,
+    FrameOrder = 3,
+    HashFull = 4,
+    ShortList = 5,
+    SlotNumber = 6,
+    NotHeld = 7,
+    OtherOwner = 8,
+    NoOwner = 9,
+    UnusedMark = 10,
+    SharedSlot = 11,
+    NoSuchMark = 12,
+    RegistryFull = 13,
+    Card = 14,
+    Probe = 15,
+}
 
-pub const FRAME_ORDER: u32 = 3;
+impl From<Refusal> for u32 {
+    ghost from_gives = { λ refusal result. result ≡ number refusal };
 
-pub const HASH_FULL: u32 = 4;
-
-pub const SHORT_LIST: u32 = 5;
-
-pub const SLOT_NUMBER: u32 = 6;
-
-pub const NOT_HELD: u32 = 7;
-
-pub const OTHER_OWNER: u32 = 8;
-
-pub const NO_OWNER: u32 = 9;
-
-pub const UNUSED_MARK: u32 = 10;
-
-pub const SHARED_SLOT: u32 = 11;
-
-pub const NO_SUCH_MARK: u32 = 12;
-
-pub const REGISTRY_FULL: u32 = 13;
-
-pub const CARD: u32 = 14;
-
-pub const PROBE: u32 = 15;
+    fn from(refusal: Refusal) -> u32 {
+        refusal as u32
+    }
+}

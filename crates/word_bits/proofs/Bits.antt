@@ -2,37 +2,28 @@
 use mathlib.Core.Path.{◌≡◌, refl, sym, ap, ap₂, ◌∙◌}
 use Prim.Native.Nat.{ℕ, zero, suc, ◌+◌, ◌-◌, ◌*◌, ◌/◌, ◌%◌, ◌^◌, ◌<◌, ◌≤◌, min}
 use native.Mathlib.Nat.{mod-eq_of_lt, pow-suc, one-mul, mul_assoc}
-use native.Mathlib.Numerals.{one-add}
 use native.Mathlib.Omega.{arith}
 use lib.Dec.{lit<}
-use lib.Pow.{pow_pos, pow-lt, pow-add, shl_exact, shr-shr}
-use lib.Bits.{bit_and, bit_or, and_step, or_add_and, or_lt, and_mask, and_high, and_shr}
-use lib.Count.{count_trailing_zeros, under, trailing_le}
+use lib.Pow.{pow_pos, pow-lt, shl_exact}
+use lib.Bits.{bit_and, bit_or, and_step, or_add_and, and_mask}
+use lib.Count.{count_trailing_zeros, trailing_le}
+use native.Mathlib.Decide.{dec_le}
+use mir.Syntax.{w64}
+use Rattle.std.proofs.lemmas.Nat.Bits.{bit_at_lowest, bit_at-suc, bit_at-zero, bit_at-lt, and_pow, bit_at-trailing_zeros, same_from_bits}
 use Rattle.wal_types.specs.Memory.{bit_at}
 use Rattle.word_bits.specs.Bit.{set_bit, clear_bit, Lowest}
 
-pub bit_lt : (n i : ℕ) → bit_at n i < 2
-unfolding bit_at
-bit_lt n i = omega arith
-
 bit_zero : (n : ℕ) → bit_at n 0 ≡ n % 2
 unfolding bit_at
-bit_zero n = omega arith
+bit_zero n = bit_at_lowest n
 
 bit_suc : (n i : ℕ) → bit_at n (suc i) ≡ bit_at (n / 2) i
 unfolding bit_at
-bit_suc n i = ap (λ (x : ℕ). n / 2 ^ x % 2) (sym (one-add i)) ∙ ap (λ (x : ℕ). x % 2) (sym (shr-shr n 1 i))
+bit_suc n i = bit_at-suc n i
 
 -- the code's mask 1 << i
 pub shifted : (i : ℕ) → i < 64 → (1 * 2 ^ i) % 2 ^ 64 ≡ 2 ^ i
 shifted i h = shl_exact 1 i 64 (lit< tt) (omega arith) ∙ one-mul (2 ^ i)
-
-pub and_pow : (n k : ℕ) → bit_and n (2 ^ k) ≡ bit_at n k * 2 ^ k
-unfolding bit_at
-and_pow n k = ap (bit_and n) e ∙ and_high n 1 k
-  where
-    e : 2 ^ k ≡ 2 ^ (1 + k) - 2 ^ k
-    e = omega (arith, pow-add 2 1 k)
 
 over : (b p s n : ℕ) → b < 2 → s + b * p ≡ n + p → s ≡ n + (1 - b) * p
 over zero p s n h e = omega arith
@@ -40,8 +31,8 @@ over (suc zero) p s n h e = omega arith
 over (suc (suc b)) p s n h e = absurd (omega arith)
 
 pub or_pow : (n k : ℕ) → bit_or n (2 ^ k) ≡ set_bit n k
-unfolding set_bit
-or_pow n k = over (bit_at n k) (2 ^ k) (bit_or n (2 ^ k)) n (bit_lt n k) (ap (λ (x : ℕ). bit_or n (2 ^ k) + x) (sym (and_pow n k)) ∙ or_add_and n (2 ^ k))
+unfolding bit_at set_bit
+or_pow n k = over (bit_at n k) (2 ^ k) (bit_or n (2 ^ k)) n (bit_at-lt n k) (ap (λ (x : ℕ). bit_or n (2 ^ k) + x) (sym (and_pow n k)) ∙ or_add_and n (2 ^ k))
 
 -- what a bit is worth is within the number
 worth : (i n : ℕ) → bit_at n i * 2 ^ i ≤ n
@@ -63,44 +54,20 @@ and_not (suc i) (suc k) n l h =
     mask_step n ((2 ^ suc k - 1) - 2 ^ suc i) ((2 ^ k - 1) - 2 ^ i) 1 (n / 2 - bit_at (n / 2) i * 2 ^ i) (omega arith) (omega arith) (and_not i k (n / 2) (omega arith) (omega arith))
     ∙ rw (bit_suc, pow-suc, ← mul_assoc) (omega arith)
 
--- trailing zeros
-pub zeros_below : (k n j : ℕ) → j < count_trailing_zeros k n → bit_at n j ≡ 0
-unfolding count_trailing_zeros
-zeros_below zero n j h = absurd (omega arith)
-zeros_below (suc k) n j h = go (λ i. zeros_below k (n / 2) i) (n % 2) refl j h
-  where
-    go : ((i : ℕ) → i < count_trailing_zeros k (n / 2) → bit_at (n / 2) i ≡ 0) → (d : ℕ) → n % 2 ≡ d → (j : ℕ) → j < under d (count_trailing_zeros k (n / 2)) → bit_at n j ≡ 0
-    go ih zero e zero h = bit_zero n ∙ e
-    go ih zero e (suc j) h = bit_suc n j ∙ ih j (omega arith)
-    go ih (suc d) e j h = absurd (omega arith)
-
-pub one_at : (k n : ℕ) → count_trailing_zeros k n < k → bit_at n (count_trailing_zeros k n) ≡ 1
-unfolding count_trailing_zeros
-one_at zero n h = absurd (omega arith)
-one_at (suc k) n h = go (one_at k (n / 2)) (n % 2) refl h
-  where
-    go : (count_trailing_zeros k (n / 2) < k → bit_at (n / 2) (count_trailing_zeros k (n / 2)) ≡ 1) → (d : ℕ) → n % 2 ≡ d → under d (count_trailing_zeros k (n / 2)) < suc k → bit_at n (under d (count_trailing_zeros k (n / 2))) ≡ 1
-    go ih zero e h = bit_suc n (count_trailing_zeros k (n / 2)) ∙ ih (omega arith)
-    go ih (suc d) e h = bit_zero n ∙ omega arith
-
-min_bits : (x y : ℕ) → x < 2 → y < 2 → min x y ≡ x * y
-min_bits zero y h g = omega arith
-min_bits (suc zero) y h g = omega arith
-min_bits (suc (suc x)) y h g = absurd (omega arith)
-
-pub bit_of_and : (a b j : ℕ) → bit_at (bit_and a b) j ≡ bit_at a j * bit_at b j
-unfolding bit_at
-bit_of_and a b j =
-    ap (λ (x : ℕ). x % 2) (and_shr a b j ∙ and_step (a / 2 ^ j) (b / 2 ^ j)) ∙ omega arith ∙ min_bits (a / 2 ^ j % 2) (b / 2 ^ j % 2) (omega arith) (omega arith)
-
 -- the least bit that is set
-pub lowest_of : (word : ℕ) → Lowest word (count_trailing_zeros 64 word)
-lowest_of word =
-    record {
-      most = trailing_le 64 word;
-      before = zeros_below 64 word;
-      here = one_at 64 word;
-    }
+zero_trails : count_trailing_zeros 64 0 ≡ 64
+unfolding count_trailing_zeros
+zero_trails = refl
+
+pub lowest_of : (word : ℕ) → word < 2 ^ 64 → Lowest word (count_trailing_zeros 64 word)
+unfolding bit_at
+lowest_of word fits = go (dec_le 1 word)
+  where
+    go : Dec (1 ≤ word) → Lowest word (count_trailing_zeros 64 word)
+    go (yes some) = let z = bit_at-trailing_zeros w64 word some fits in record { most = trailing_le 64 word; before = z.2; here = λ h. z.1 }
+    go (no f) =
+        let e : word ≡ 0 = omega arith in
+        rw e (record { most = omega (arith, zero_trails); before = λ j h. bit_at-zero j; here = λ h. absurd (omega (arith, zero_trails)) })
 
 -- what setting and clearing do to each bit: by induction on the bit, the number is halved
 set_half : (n i : ℕ) → set_bit n (suc i) / 2 ≡ set_bit (n / 2) i
@@ -155,10 +122,7 @@ clear_other zero (suc j) n f = bit_suc (clear_bit n 0) j ∙ ap (λ (x : ℕ). b
 clear_other (suc i) zero n f = bit_zero (clear_bit n (suc i)) ∙ clear_low n i ∙ sym (bit_zero n)
 clear_other (suc i) (suc j) n f = bit_suc (clear_bit n (suc i)) j ∙ ap (λ (x : ℕ). bit_at x j) (clear_half n i) ∙ clear_other i j (n / 2) (λ e. f (ap suc e)) ∙ sym (bit_suc n j)
 
--- a word stays a word
-pub set_lt : (i k n : ℕ) → i < k → n < 2 ^ k → set_bit n i < 2 ^ k
-set_lt i k n l h = rw (sym (or_pow n i)) (or_lt k n (2 ^ i) h (pow-lt l))
-
+-- a bit cleared makes the word no greater
 pub clear_le : (n i : ℕ) → clear_bit n i ≤ n
 unfolding clear_bit
 clear_le n i = omega arith
@@ -170,15 +134,9 @@ clear_less n i e = let w = worth i n in let p = pow_pos i in let q : bit_at n i 
 
 -- 0 has no bit set, and no other number
 pub zero_bits : (j : ℕ) → bit_at 0 j ≡ 0
-zero_bits zero = bit_zero 0
-zero_bits (suc j) = bit_suc 0 j ∙ zero_bits j
-
-no_bits_within : (most n : ℕ) → n ≤ most → ((j : ℕ) → bit_at n j ≡ 0) → n ≡ 0
-no_bits_within zero n l h = omega arith
-no_bits_within (suc most) n l h =
-    let half : n / 2 ≡ 0 = no_bits_within most (n / 2) (omega arith) (λ j. sym (bit_suc n j) ∙ h (suc j)) in
-    let low : n % 2 ≡ 0 = sym (bit_zero n) ∙ h 0 in
-    omega arith
+unfolding bit_at
+zero_bits j = bit_at-zero j
 
 pub no_bits : (n : ℕ) → ((j : ℕ) → bit_at n j ≡ 0) → n ≡ 0
-no_bits n h = no_bits_within n n (omega arith) h
+unfolding bit_at
+no_bits n h = same_from_bits n 0 (λ j. h j ∙ sym (bit_at-zero j))

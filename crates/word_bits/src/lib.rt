@@ -6,6 +6,7 @@ ghost use Rattle.wal_types.specs.Memory.{bit_at};
 ghost use Rattle.word_bits.specs.Bit.{set_bit, clear_bit, Lowest};
 
 // Bit i of the word, 0 or 1.
+#[tactic(auto, using(std::proofs::lemmas::Nat::Bits::shr_and_one), unfolding(wal_types::specs::Memory::bit_at))]
 pub fn bit(word: u64, i: u32) -> u64
     requires { i < 64 }
     ensures { result ≡ bit_at word i }
@@ -33,5 +34,5 @@ pub fn without_bit(word: u64, i: u32) -> u64
 pub fn lowest_bit(word: u64) -> u32
     ensures { Lowest word result }
 {
-    u64::trailing_zeros(word)
+    word.trailing_zeros()
 }

@@ -1,20 +1,20 @@
-use Prim.Native.Nat.{ℕ}
-use mathlib.Core.Path.{ap}
+use Prim.Native.Nat.{◌+◌, ◌-◌, ◌%◌}
+use mathlib.Core.Path.{◌≡◌}
 use Rattle.index_hash.specs.Home.{next_cell}
-use Rattle.index_hash.specs.Block.{empty_from}
 use Rattle.index_hash.proofs.Turns.{none_left, at_empty, at_used}
 use native.Mathlib.Omega.{arith}
 use Rattle.index_hash.proofs.empty_from.Goals as goal
 
-pub loop-init : goal.loop-init
-loop-init c = (omega arith, (omega arith, ap (λ (n : ℕ). empty_from n c.args.hash.now c.args.from) (omega arith)))
-
 pub returns-then-hash-cell-eq0 : goal.returns-then-hash-cell-eq0
-returns-then-hash-cell-eq0 c = at_empty _ _ _ _ c.loop.invariant.1.1 (omega arith) c.if-hash-cell-eq0.true
+returns-then-hash-cell-eq0 c = at_empty _ _ _ _ c.loop-step.invariant.1 (omega arith) c.if-hash-cell-eq0.true
 
-pub loop-preserved : goal.loop-preserved
+pub loop-step-preserved : goal.loop-step-preserved
 unfolding next_cell
-loop-preserved c = (omega arith, (omega arith, at_used _ _ _ _ c.loop.invariant.1.1 _ (omega arith) c.if-hash-cell-eq0.false))
+loop-step-preserved c =
+    let l = c.loop-step in
+    let a = c.args in
+    let next : ((a.from + l.step % 8192) % 8192 + 1) % 8192 ≡ (a.from + (l.step + 1) % 8192) % 8192 = omega arith in
+    (omega arith, rw next at (at_used _ _ _ _ l.invariant.1 (a.cells - (l.step + 1)) (omega arith) c.if-hash-cell-eq0.false))
 
 pub returns : goal.returns
-returns c = none_left _ _ _ _ c.loop.invariant.1.1 (omega arith)
+returns c = none_left _ _ _ _ c.loop-step.invariant.1 (omega arith)

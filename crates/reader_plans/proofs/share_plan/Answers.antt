@@ -1,30 +1,37 @@
-use Rattle.reader_plans.proofs.Shares.{share_refused, share_joins, new_bad_card, new_registered, taken_below, new_without_record}
-use mathlib.Core.Path.{sym, ◌∙◌}
-use Rattle.reader_slots.proofs.Card.{card_length}
-use Rattle.reader_shared.proofs.Refused.{share_room}
-use native.Mathlib.Omega.{arith}
+use Rattle.std.proofs.Common.{arith}
+use Rattle.std.proofs.lemmas.Result.{err_from_is_err_and}
+use Rattle.reader_plans.proofs.Shares.{share_refused, enough, joined_full, joined_card, joined, new_card, none_taken, without_record, slot_fits, published}
 use Rattle.reader_plans.proofs.share_plan.Goals as goal
 
-pub returns-then-refused-ne0 : goal.returns-then-refused-ne0
-returns-then-refused-ne0 c = share_refused _ _ _ _ _ _ _ _ _ _ c.args.seen _ c.share_refusal-refused.ensures c.if-refused-ne0.true _ c.share_nothing.ensures
+pub returns-in_err-check_share : goal.returns-in_err-check_share
+returns-in_err-check_share c = let p = err_from_is_err_and c.from_residual.result c.from_residual.ensures.1 in rw (p.1, p.2) (share_refused _ _ _ _ _ _ _ _ _ _ c.args.seen _ c.in_err-check_share.ensures)
 
-pub returns-in-At : goal.returns-in-At
-returns-in-At c = share_joins _ _ _ _ _ _ _ _ _ _ c.args.seen _ c.share_refusal-refused.ensures c.if-refused-ne0.false _ c.in-At.is _ c.bad_card-bad_card.ensures _ c.share_joined.ensures
+pub returns-in_err-check_room-in-Shared : goal.returns-in_err-check_room-in-Shared
+returns-in_err-check_room-in-Shared c = let p = err_from_is_err_and c.from_residual-in_err-check_room-in-Shared.result c.from_residual-in_err-check_room-in-Shared.ensures.1 in rw (p.1, p.2) (joined_full _ _ _ _ _ _ _ _ _ _ c.args.seen c.in_ok-check_share.ensures _ _ c.in-Shared.is _ c.in_err-check_room-in-Shared.ensures)
 
-pub returns-then-bad_card : goal.returns-then-bad_card
-returns-then-bad_card c = new_bad_card _ _ _ _ _ _ _ _ _ _ c.args.seen _ c.share_refusal-refused.ensures c.if-refused-ne0.false c.in_default.is (sym c.bad_card-bad_card.ensures ∙ c.if-bad_card.true) _ c.share_nothing-then-bad_card.ensures
+pub returns-in_err-card_refusal-in-Shared : goal.returns-in_err-card_refusal-in-Shared
+returns-in_err-card_refusal-in-Shared c = let p = err_from_is_err_and c.from_residual-in_err-card_refusal-in-Shared.result c.from_residual-in_err-card_refusal-in-Shared.ensures.1 in rw (p.1, p.2) (joined_card _ _ _ _ _ _ _ _ _ _ c.args.seen c.in_ok-check_share.ensures _ _ c.in-Shared.is c.in_ok-check_room-in-Shared.ensures _ c.in_err-card_refusal-in-Shared.ensures)
+
+pub returns-in-Shared : goal.returns-in-Shared
+returns-in-Shared c = rw c.share_joined.ensures (joined _ _ _ _ _ _ _ _ _ _ c.args.seen c.in_ok-check_share.ensures _ _ c.in-Shared.is c.in_ok-check_room-in-Shared.ensures c.in_ok-card_refusal-in-Shared.ensures)
+
+pub returns-in_err-card_refusal : goal.returns-in_err-card_refusal
+returns-in_err-card_refusal c = let p = err_from_is_err_and c.from_residual-in_err-card_refusal.result c.from_residual-in_err-card_refusal.ensures.1 in rw (p.1, p.2) (new_card _ _ _ _ _ _ _ _ _ _ c.args.seen c.in_ok-check_share.ensures _ c.in-New.is _ c.in_err-card_refusal.ensures)
 
 pub could_take-takes-requires : goal.could_take-takes-requires
-could_take-takes-requires c = let h = (share_room _ _ _ _ _ _ _ _ _ c.share_refusal-refused.ensures c.if-refused-ne0.false).0 in let q = card_length c.args.n c.args.card.now (sym c.bad_card-bad_card.ensures ∙ c.if-bad_card.false) in omega arith
+could_take-takes-requires c = let h = enough _ _ _ _ _ _ _ _ _ c.in_ok-check_share.ensures c.in_ok-card_refusal.ensures in omega arith
 
-pub returns-in_default-empty : goal.returns-in_default-empty
-returns-in_default-empty c = new_without_record _ _ _ _ _ _ _ _ _ _ c.args.seen _ c.share_refusal-refused.ensures c.if-refused-ne0.false c.in_default.is (sym c.bad_card-bad_card.ensures ∙ c.if-bad_card.false) c.in_default-empty.is _ c.could_take-takes.ensures _ c.without_record-answer.ensures _ c.share_nothing-in_default-empty.ensures
+pub returns-in_default : goal.returns-in_default
+returns-in_default c = without_record _ _ _ _ _ _ _ _ _ _ c.args.seen c.in_ok-check_share.ensures _ c.in-New.is c.in_ok-card_refusal.ensures c.in_default.is _ c.could_take-takes.ensures _ c.without_record.ensures
 
-pub register_checked-registered-requires : goal.register_checked-registered-requires
-register_checked-registered-requires c = let h = (share_room _ _ _ _ _ _ _ _ _ c.share_refusal-refused.ensures c.if-refused-ne0.false).0 in let q = card_length c.args.n c.args.card.now (sym c.bad_card-bad_card.ensures ∙ c.if-bad_card.false) in omega arith
+pub register_checked-requires : goal.register_checked-requires
+register_checked-requires c = enough _ _ _ _ _ _ _ _ _ c.in_ok-check_share.ensures c.in_ok-card_refusal.ensures
+
+pub returns-in_default-register_checked : goal.returns-in_default-register_checked
+returns-in_default-register_checked c = none_taken _ _ _ _ _ _ _ _ _ _ c.args.seen c.in_ok-check_share.ensures _ c.in-New.is c.in_ok-card_refusal.ensures c.register_checked.result _ _ _ _ c.register_checked.ensures c.in_default-register_checked.is
 
 pub share_published-requires : goal.share_published-requires
-share_published-requires c = λ slot y. let g = (share_room _ _ _ _ _ _ _ _ _ c.share_refusal-refused.ensures c.if-refused-ne0.false).0.most in let q = taken_below _ _ _ _ _ _ _ _ _ _ c.args.seen _ c.share_refusal-refused.ensures c.if-refused-ne0.false c.in_default.is (sym c.bad_card-bad_card.ensures ∙ c.if-bad_card.false) _ _ _ _ c.register_checked-registered.result c.register_checked-registered.ensures slot y in omega (arith, g, q)
+share_published-requires c = slot_fits _ _ _ _ _ _ _ _ _ _ c.args.seen c.in_ok-check_share.ensures _ c.in-New.is c.in_ok-card_refusal.ensures c.register_checked.result _ _ _ _ c.register_checked.ensures _ c.in-Some-register_checked.is
 
 pub returns : goal.returns
-returns c = new_registered _ _ _ _ _ _ _ _ _ _ c.args.seen _ c.share_refusal-refused.ensures c.if-refused-ne0.false c.in_default.is (sym c.bad_card-bad_card.ensures ∙ c.if-bad_card.false) _ _ _ _ c.register_checked-registered.result c.register_checked-registered.ensures _ c.in-At-empty.is _ c.share_published.ensures
+returns c = rw c.share_published.ensures (published _ _ _ _ _ _ _ _ _ _ c.args.seen c.in_ok-check_share.ensures _ c.in-New.is c.in_ok-card_refusal.ensures c.register_checked.result _ _ _ _ c.register_checked.ensures _ c.in-Some-register_checked.is _ c.in-Some.is)

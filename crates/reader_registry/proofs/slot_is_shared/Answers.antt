@@ -1,5 +1,6 @@
+use Rattle.std.proofs.Common.{◌∙◌, ap, is_some}
 use Rattle.reader_registry.proofs.Scan.{slot_told}
 use Rattle.reader_registry.proofs.slot_is_shared.Goals as goal
 
 pub returns : goal.returns
-returns c = slot_told _ _ _ _ _ _ c.slot_wanted.ensures c.first_record-place.ensures c.is_place.ensures
+returns c = c.is_some.ensures ∙ (ap is_some c.first_used.ensures ∙ slot_told _ _ _ _ c.first_records.ensures)

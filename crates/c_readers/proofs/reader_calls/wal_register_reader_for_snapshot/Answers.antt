@@ -1,5 +1,10 @@
-use Rattle.c_readers.proofs.ReaderReplies.{share_taken}
+use Rattle.c_reader_replies.specs.ReaderReply.{reader_reply}
+use Rattle.c_readers.proofs.ReaderReplies.{share_needs_slots, plan_told}
+use Rattle.reader_shared.specs.Shared.{register_reader_for_snapshot}
 use Rattle.c_readers.proofs.reader_calls.wal_register_reader_for_snapshot.Goals as goal
 
 pub returns : goal.returns
-returns c = share_taken _ _ _ _ _ _ _ _ _ _ _ _ _ _ _ _ _ _ c.args.registry.now _ _ c.register_reader_for_snapshot-step.ensures c.look_through-seen.ensures c.retain_shared_snapshot_reader.ensures c.publish_shared_snapshot_reader.ensures
+returns c =
+    let a = c.args in
+    rw c.change_registry.ensures
+    (plan_told reader_reply (λ n mode. register_reader_for_snapshot n mode a.owner a.mark a.card.now) (share_needs_slots _ _ _) _ _ _ c.settings_of-given.ensures _ _ c.from.ensures _ _ _ c.look_through-seen.ensures _ _ _ _ _ _ _ _ _ c.share_plan-answer.ensures)

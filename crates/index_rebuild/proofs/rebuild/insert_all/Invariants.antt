@@ -6,4 +6,4 @@ use mathlib.Core.Path.{◌≡◌}
 use Rattle.index_rebuild.proofs.rebuild.insert_all.Given as goal
 
 abbrev pub invariant-loop : goal.invariant-loop
-invariant-loop l = ((l.counter ≤ 64) × (l.next ≤ l.visible_entries)) × ((length l.hash ≡ 8192) × (l.hash ≡ built l.pages l.next))
+invariant-loop l = ((l.counter ≤ 64) × (l.next ≤ length l.pages)) × ((length l.hash ≡ 8192) × (l.hash ≡ built l.pages l.next))

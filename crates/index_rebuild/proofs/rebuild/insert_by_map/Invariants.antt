@@ -7,4 +7,4 @@ use mathlib.Core.Path.{◌≡◌}
 use Rattle.index_rebuild.proofs.rebuild.insert_by_map.Given as goal
 
 abbrev pub invariant-loop-local_index : goal.invariant-loop-local_index
-invariant-loop-local_index l = (l.local_index ≤ l.visible_entries) × (((length l.hash ≡ 8192) × (length l.cells ≡ 130)) × ((l.hash ≡ built l.pages l.local_index) × Tells l.hash l.cells))
+invariant-loop-local_index l = (l.local_index ≤ length l.pages) × (((length l.hash ≡ 8192) × (length l.cells ≡ 130)) × ((l.hash ≡ built l.pages l.local_index) × Tells l.hash l.cells))

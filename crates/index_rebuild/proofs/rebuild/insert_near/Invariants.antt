@@ -6,4 +6,4 @@ use mathlib.Core.Path.{◌≡◌}
 use Rattle.index_rebuild.proofs.rebuild.insert_near.Given as goal
 
 abbrev pub invariant-loop-local_index : goal.invariant-loop-local_index
-invariant-loop-local_index l = (l.local_index ≤ l.visible_entries) × ((length l.hash ≡ 8192) × (l.hash ≡ built l.pages l.local_index))
+invariant-loop-local_index l = (l.local_index ≤ length l.pages) × ((length l.hash ≡ 8192) × (l.hash ≡ built l.pages l.local_index))

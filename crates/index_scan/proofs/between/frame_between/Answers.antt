@@ -1,26 +1,14 @@
-use mathlib.Core.Path.{sym, ◌∙◌}
-use Rattle.index_find.proofs.Settings.{passed_entries}
-use Rattle.index_scan.proofs.Choices.{search_refused, search_gives, search_gives_none}
+use Rattle.std.proofs.lemmas.Result.{err_from_is_err_and}
+use Rattle.index_scan.proofs.Choices.{search_refused, search_gives}
 use Rattle.index_scan.proofs.between.frame_between.Goals as goal
 
-pub returns-then-refusal-ne0 : goal.returns-then-refusal-ne0
-returns-then-refusal-ne0 c =
+pub returns-in_err-check_entries : goal.returns-in_err-check_entries
+returns-in_err-check_entries c =
     let a = c.args in
-    search_refused a.capacity a.max_blocks a.page_id a.min_frame a.max_frame a.header a.pages.now a.frames.now _ (sym c.entries_refusal-refusal.ensures) c.if-refusal-ne0.true
-
-pub last_between-found-requires : goal.last_between-found-requires
-last_between-found-requires c =
-    let a = c.args in
-    passed_entries a.capacity a.max_blocks a.header _ _ (sym c.entries_refusal-refusal.ensures ∙ c.if-refusal-ne0.false)
-
-pub returns-in_default : goal.returns-in_default
-returns-in_default c =
-    let a = c.args in
-    let passed = sym c.entries_refusal-refusal.ensures ∙ c.if-refusal-ne0.false in
-    search_gives_none a.capacity a.max_blocks a.page_id a.min_frame a.max_frame a.header a.pages.now a.frames.now passed _ _ c.last_between-found.ensures c.in_default.is
+    let e = err_from_is_err_and c.from_residual.result c.from_residual.ensures.1 in
+    rw (e.1, e.2) (search_refused a.capacity a.max_blocks a.page_id a.min_frame a.max_frame a.header a.pages.now a.frames.now c.in_err-check_entries.field-0.0 c.in_err-check_entries.ensures)
 
 pub returns : goal.returns
 returns c =
     let a = c.args in
-    let passed = sym c.entries_refusal-refusal.ensures ∙ c.if-refusal-ne0.false in
-    search_gives a.capacity a.max_blocks a.page_id a.min_frame a.max_frame a.header a.pages.now a.frames.now passed _ _ c.last_between-found.ensures _ c.in-Frame.is
+    search_gives a.capacity a.max_blocks a.page_id a.min_frame a.max_frame a.header a.pages.now a.frames.now c.in_ok-check_entries.ensures _ _ c.last_between.ensures

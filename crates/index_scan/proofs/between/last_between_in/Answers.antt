@@ -1,28 +1,27 @@
-use mathlib.Core.Path.{refl, sym, ◌∙◌}
-use Rattle.index_scan.proofs.Choices.{turn_between, turn_beyond, turn_other, turns_done}
+use mathlib.Core.Path.{◌≡◌}
+use mathlib.Core.Bool.{true, false}
+use Prim.Native.Nat.{◌-◌}
+use lib.ListN.{get_or}
 use native.Mathlib.Omega.{arith}
+use Rattle.std.proofs.lemmas.Grind.{common_steps}
+use Rattle.wal_types.specs.Settings.{within}
+use Rattle.index_scan.proofs.Choices.{turn_between, turn_beyond, turn_other, turns_done}
 use Rattle.index_scan.proofs.between.last_between_in.Goals as goal
 
-pub loop-n-init : goal.loop-n-init
-loop-n-init c = (omega arith, (omega arith, refl))
+pub returns-then-contains : goal.returns-then-contains
+returns-then-contains c =
+    let a = c.args in
+    let inside : within a.min_frame a.max_frame (get_or a.frames.now (c.loop-n.n - 1) 0) ≡ true = grind (arith, common_steps) in
+    turn_between _ _ _ _ _ _ _ c.loop-n.invariant.1 (omega arith) c.if-pages-n.true inside
 
-pub returns-then-is_between : goal.returns-then-is_between
-returns-then-is_between c =
-    let i = c.loop-n.invariant in
-    let taken = c.loop-n-test.true in
-    turn_between _ _ _ _ _ _ _ i.1.1 (omega arith) c.if-pages-n.true (sym c.is_between.ensures ∙ c.if-is_between.true)
-
-pub loop-n-preserved-else-is_between : goal.loop-n-preserved-else-is_between
-loop-n-preserved-else-is_between c =
-    let i = c.loop-n.invariant in
-    let taken = c.loop-n-test.true in
-    (omega arith, (omega arith, turn_beyond _ _ _ _ _ _ _ i.1.1 (omega arith) c.if-pages-n.true (sym c.is_between.ensures ∙ c.if-is_between.false)))
+pub loop-n-preserved-else-contains : goal.loop-n-preserved-else-contains
+loop-n-preserved-else-contains c =
+    let a = c.args in
+    let out : within a.min_frame a.max_frame (get_or a.frames.now (c.loop-n.n - 1) 0) ≡ false = grind (arith, common_steps) in
+    (omega arith, turn_beyond _ _ _ _ _ _ _ c.loop-n.invariant.1 (omega arith) c.if-pages-n.true out)
 
 pub loop-n-preserved : goal.loop-n-preserved
-loop-n-preserved c =
-    let i = c.loop-n.invariant in
-    let taken = c.loop-n-test.true in
-    (omega arith, (omega arith, turn_other _ _ _ _ _ _ _ i.1.1 (omega arith) c.if-pages-n.false))
+loop-n-preserved c = (omega arith, turn_other _ _ _ _ _ _ _ c.loop-n.invariant.1 (omega arith) c.if-pages-n.false)
 
 pub returns : goal.returns
-returns c = let i = c.loop-n.invariant in turns_done _ _ _ _ _ _ _ i.1.1 _ i.0 c.loop-n-test.false
+returns c = turns_done _ _ _ _ _ _ _ c.loop-n.invariant.1 _ c.loop-n.invariant.0 (omega arith)

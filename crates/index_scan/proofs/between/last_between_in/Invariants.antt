@@ -1,11 +1,8 @@
 use mathlib.Core.Path.{◌≡◌}
-use Prim.Native.Nat.{◌-◌, ◌≤◌}
+use Prim.Native.Nat.{◌≤◌}
 use Rattle.index_scan.specs.InnerScan.{last_among}
 use Rattle.index_scan.proofs.between.last_between_in.Given as goal
 
 abbrev pub invariant-loop-n : goal.invariant-loop-n
 invariant-loop-n l =
-    (l.from ≤ l.n) × ((l.n ≤ l.end) × (last_among l.pages l.frames l.page_id l.min_frame l.max_frame l.n ≡ last_among l.pages l.frames l.page_id l.min_frame l.max_frame l.end))
-
-abbrev pub decreases-loop-n : goal.decreases-loop-n
-decreases-loop-n l = l.n - l.from
+    (l.from ≤ l.n) × (last_among l.pages l.frames l.page_id l.min_frame l.max_frame l.n ≡ last_among l.pages l.frames l.page_id l.min_frame l.max_frame l.end)

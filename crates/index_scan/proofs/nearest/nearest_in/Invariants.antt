@@ -1,11 +1,6 @@
 use mathlib.Core.Path.{◌≡◌}
-use Prim.Native.Nat.{◌-◌, ◌≤◌}
 use Rattle.index_scan.specs.InnerScan.{nearest_among}
 use Rattle.index_scan.proofs.nearest.nearest_in.Given as goal
 
 abbrev pub invariant-loop-n : goal.invariant-loop-n
-invariant-loop-n l =
-    (l.from ≤ l.n) × ((l.n ≤ l.end) × (l.initial.found ≡ nearest_among l.pages l.frames l.page_id l.to_frame l.from → l.found ≡ nearest_among l.pages l.frames l.page_id l.to_frame l.n))
-
-abbrev pub decreases-loop-n : goal.decreases-loop-n
-decreases-loop-n l = l.end - l.n
+invariant-loop-n l = l.initial.found ≡ nearest_among l.pages l.frames l.page_id l.to_frame l.from → l.found ≡ nearest_among l.pages l.frames l.page_id l.to_frame l.n

@@ -1,25 +1,18 @@
-use Rattle.index_scan.proofs.Distances.{look_passed, look_further, none_yet}
+use mathlib.Core.Path.{◌≡◌}
+use Prim.Native.Nat.{◌+◌, ◌*◌}
 use native.Mathlib.Omega.{arith}
+use Rattle.index_scan.proofs.Distances.{look_passed, none_yet}
 use Rattle.index_scan.proofs.nearest.nearest_of.Goals as goal
+use Rattle.index_scan.proofs.nearest.nearest_of.Goals.{then-not-are_others, else-not-are_others}
 
-pub loop-n-init : goal.loop-n-init
-loop-n-init c = (omega arith, none_yet _ _ _ _)
+pub loop-look-init : goal.loop-look-init
+loop-look-init c = none_yet _ _ _ _
 
-pub nearest_in-found-requires : goal.nearest_in-found-requires
-nearest_in-found-requires c = (omega arith, (omega arith, omega arith))
-
-pub loop-n-preserved-then-not-eight_of_others : goal.loop-n-preserved-then-not-eight_of_others
-loop-n-preserved-then-not-eight_of_others c =
-    let i = c.loop-n.invariant in
-    (omega arith, look_further _ _ _ _ _ _ i.1 _ c.nearest_in-found.ensures)
-
-pub loop-n-preserved : goal.loop-n-preserved
-loop-n-preserved c =
-    let i = c.loop-n.invariant in
-    (omega arith, look_passed _ _ _ _ _ _ i.1 (c.eight_of_others.ensures c.if-not-eight_of_others.false))
-
-pub nearest_in-requires : goal.nearest_in-requires
-nearest_in-requires c = (omega arith, (omega arith, omega arith))
-
-pub returns : goal.returns
-returns c = c.nearest_in.ensures c.loop-n.invariant.1
+pub loop-look-preserved : goal.loop-look-preserved
+loop-look-preserved c =
+    let i = c.loop-look.invariant in
+    let next : (c.loop-look.look + 1) * 8 ≡ c.loop-look.look * 8 + 8 = omega arith in
+    elim c.if-not-are_others.branch [
+      | then-not-are_others w ↦ rw (w.found-is, next) (w.nearest_in-found.ensures i)
+      | else-not-are_others w ↦ rw (w.found-is, next) (look_passed _ _ _ _ _ _ i (c.are_others.ensures w.if-not-are_others.false))
+    ]

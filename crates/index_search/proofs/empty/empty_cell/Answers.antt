@@ -10,6 +10,3 @@ returns-then-cell-end c =
     let r = c.near_live_until-cell.ensures in
     let d = r.1.1 c.if-cell-end.true in
     of_page h home _ _ c.hash_page_id-home.ensures.0 (found_on h home (omega arith) _ (omega arith) (omega arith) (live_used h 65535 home _ r.1.0) (dead_empty h _ d.0 d.1))
-
-pub returns : goal.returns
-returns c = c.far_empty_cell.ensures

@@ -1,11 +1,10 @@
+use Rattle.std.proofs.Common.{◌≤◌, ◌+◌, take, drop}
+use Rattle.list_choose.specs.Chosen.{in_bounds, firsts}
 use Rattle.list_choose.proofs.Turns.{Chooses}
-use lib.ListN.{length, take}
-use Prim.Native.Nat.{◌-◌, ◌≤◌}
-use mathlib.Core.Path.{◌≡◌}
 use Rattle.list_choose.proofs.choose.choose.Given as goal
 
-abbrev pub invariant-loop-at : goal.invariant-loop-at
-invariant-loop-at l = ((l.at ≤ length l.list) × (l.count ≤ l.at)) × ((length l.chosen ≡ length l.initial.chosen) × Chooses l.pages l.frames l.min_frame l.max_frame l.list l.at l.last (take l.count l.chosen))
-
-abbrev pub decreases-loop-at : goal.decreases-loop-at
-decreases-loop-at l = length l.list - l.at
+abbrev pub invariant-loop-entry : goal.invariant-loop-entry
+invariant-loop-entry l = record {
+  room : l.count ≤ l.entry-index + 1;
+  chooses : Chooses l.pages l.frames l.min_frame l.max_frame (drop l.entry-index l.rest) l.last (take l.count l.chosen) (in_bounds l.frames l.min_frame l.max_frame (firsts l.pages l.list));
+}

@@ -1,11 +1,9 @@
-use Rattle.list_gather.specs.InnerGathered.{known}
-use lib.ListN.{length}
-use Prim.Native.Nat.{ℕ, ◌-◌, ◌%◌, ◌≤◌, ◌<◌}
-use mathlib.Core.Path.{◌≡◌}
+use Rattle.std.proofs.Common.{◌≡◌, ℕ, ◌*◌, ◌<◌, false, length, get_or, take}
+use Rattle.list_gather.specs.Named.{has_cell}
 use Rattle.list_gather.proofs.gather.note_cells.Given as goal
 
-abbrev pub invariant-loop-next : goal.invariant-loop-next
-invariant-loop-next l = ((l.next ≤ 8192) × (l.next % 8 ≡ 0)) × ((length l.seen ≡ 4097) × ((v : ℕ) → 0 < v → v < 4097 → known l.cells l.next l.seen v ≡ known l.cells 0 l.initial.seen v))
-
-abbrev pub decreases-loop-next : goal.decreases-loop-next
-decreases-loop-next l = 8192 - l.next
+abbrev pub invariant-loop-run : goal.invariant-loop-run
+invariant-loop-run l = record {
+  every_value : length l.seen ≡ 4097;
+  noted : (v : ℕ) → 0 < v → v < 4097 → get_or l.seen v false ≡ has_cell (take (8 * l.run-index) l.cells) v;
+}

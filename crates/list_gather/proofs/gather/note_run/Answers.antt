@@ -1,27 +1,18 @@
-use native.Mathlib.Nat.{add-zero}
-use Rattle.list_gather.proofs.SeenValues.{known_other, known_noted}
-use lib.ListN.{length-set}
-use Prim.Native.Nat.{◌+◌}
-use mathlib.Core.Path.{◌≡◌, ◌∙◌}
-use native.Mathlib.Omega.{arith}
+use Rattle.std.proofs.Common.{◌<◌, length, sym, arith}
+use Rattle.list_gather.proofs.SeenValues.{or_false, has_none, noted_other, noted_next}
+use Rattle.list_gather.proofs.gather.note_run.Goals.{then-v-le-BLOCK_ENTRIES, else-v-le-BLOCK_ENTRIES}
 use Rattle.list_gather.proofs.gather.note_run.Goals as goal
 
-pub loop-i-init : goal.loop-i-init
-loop-i-init c = (omega arith, (omega arith, λ v b. rw add-zero))
+pub loop-cell-init : goal.loop-cell-init
+loop-cell-init c = record { every_value = omega arith; noted = λ v b. rw has_none (sym (or_false _)) }
 
-pub loop-i-preserved-then-v-le-BLOCK_ENTRIES : goal.loop-i-preserved-then-v-le-BLOCK_ENTRIES
-loop-i-preserved-then-v-le-BLOCK_ENTRIES c =
-    let a = c.args in
-    let i = c.loop-i.i in
-    let r : a.from + (i + 1) ≡ a.from + i + 1 = omega arith in
-    (omega arith, (simp length-set c.loop-i.invariant.1.0, λ v b. rw r (known_noted a.cells.now (a.from + i) (omega arith) c.loop-i.seen v c.wide-v.result c.wide-v.ensures.0 (omega arith) ∙ c.loop-i.invariant.1.1 v b)))
-
-pub loop-i-preserved : goal.loop-i-preserved
-loop-i-preserved c =
-    let a = c.args in
-    let i = c.loop-i.i in
-    let r : a.from + (i + 1) ≡ a.from + i + 1 = omega arith in
-    (omega arith, (c.loop-i.invariant.1.0, λ v b. rw r (known_other a.cells.now (a.from + i) (omega arith) c.loop-i.seen v (λ e. absurd (omega arith)) ∙ c.loop-i.invariant.1.1 v b)))
-
-pub returns : goal.returns
-returns c = let r : c.loop-i.i ≡ 8 = omega arith in λ v b. rw (← r) (c.loop-i.invariant.1.1 v b)
+pub loop-cell-preserved : goal.loop-cell-preserved
+loop-cell-preserved c =
+    let inv = c.loop-cell.invariant in
+    let in_run : c.loop-cell.cell-index < length c.args.run.now = omega arith in record {
+      every_value = omega arith;
+      noted = λ v b. elim c.if-v-le-BLOCK_ENTRIES.branch [
+        | then-v-le-BLOCK_ENTRIES w ↦ rw (w.seen-is, c.from-v.ensures) (noted_next _ _ in_run v _ _ (inv.noted v b) (omega arith))
+        | else-v-le-BLOCK_ENTRIES w ↦ rw w.seen-is (noted_other _ _ in_run v _ _ (inv.noted v b) (λ e. absurd (omega arith)))
+      ];
+    }

@@ -1,13 +1,6 @@
-use Rattle.reader_floor.proofs.Floored.{passed}
-use Rattle.reader_limit.proofs.Limited.{limit_refused, limit_told}
-use native.Mathlib.Omega.{arith}
+use Rattle.reader_limit.proofs.Limited.{limit_refused}
+use Rattle.std.proofs.lemmas.Result.{err_from_is_err_and}
 use Rattle.reader_limit.proofs.limit.copy_back_limit.Goals as goal
 
-pub returns-then-refusal-ne0 : goal.returns-then-refusal-ne0
-returns-then-refusal-ne0 c = limit_refused _ _ _ _ _ _ _ _ c.all_slots_refusal-refusal.ensures _ _ c.if-refusal-ne0.true
-
-pub live_marks-marks-requires : goal.live_marks-marks-requires
-live_marks-marks-requires c = let h = passed _ _ _ _ _ _ _ _ c.all_slots_refusal-refusal.ensures c.if-refusal-ne0.false in omega arith
-
-pub returns : goal.returns
-returns c = limit_told _ _ _ _ _ _ _ _ c.all_slots_refusal-refusal.ensures _ _ c.if-refusal-ne0.false _ _ _ _ c.live_marks-marks.ensures _ _ c.limit_by_floor-limit.ensures c.limit_by_db_file.ensures
+pub returns-in_err-check_all_slots : goal.returns-in_err-check_all_slots
+returns-in_err-check_all_slots c = let p = err_from_is_err_and c.from_residual.result c.from_residual.ensures.1 in rw (p.1, p.2) (limit_refused _ _ _ _ _ _ _ _ _ _ c.in_err-check_all_slots.ensures)

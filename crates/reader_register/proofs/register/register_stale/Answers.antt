@@ -5,15 +5,15 @@ use mathlib.Core.Path.{sym, ◌∙◌}
 use native.Mathlib.Omega.{arith}
 use Rattle.reader_register.proofs.register.register_stale.Goals as goal
 
-pub returns-in_default : goal.returns-in_default
+pub returns-in_err-slot : goal.returns-in_err-slot
 unfolding chosen_by
-returns-in_default c = takes_none _ _ _ _ _ _ _ _ _ c.requires.1.0 (rw (c.requires.1.1.1.1.1.1, sym c.stale_slot.ensures ∙ c.in_default.is))
+returns-in_err-slot c = rw c.from_residual.ensures (takes_none _ _ _ _ _ _ _ _ _ c.requires.room.1 (rw (c.requires.none_free, sym c.stale_slot.ensures ∙ c.in_err-slot.was)))
 
 pub reclaim_stale_reader_slots-requires : goal.reclaim_stale_reader_slots-requires
-reclaim_stale_reader_slots-requires c = let q = found_below _ _ _ (sym c.stale_slot.ensures ∙ c.in-At.is) in omega (arith, q, c.requires)
+reclaim_stale_reader_slots-requires c = let q = found_below _ _ _ (sym c.stale_slot.ensures ∙ c.in_ok-slot.was) in omega (arith, q, c.requires)
 
 pub take_slot-requires : goal.take_slot-requires
-take_slot-requires c = let q = found_below _ _ _ (sym c.stale_slot.ensures ∙ c.in-At.is) in omega (arith, q, c.requires, c.reclaim_stale_reader_slots.auto)
+take_slot-requires c = let q = found_below _ _ _ (sym c.stale_slot.ensures ∙ c.in_ok-slot.was) in omega (arith, q, c.requires, c.reclaim_stale_reader_slots.auto)
 
 pub returns : goal.returns
-returns c = takes_stale _ _ _ _ _ _ _ _ _ c.requires.1.0 c.requires.1.1.1.1.1.1 _ (sym c.stale_slot.ensures ∙ c.in-At.is) _ _ _ c.reclaim_stale_reader_slots.ensures _ _ _ _ c.take_slot.ensures
+returns c = takes_stale _ _ _ _ _ _ _ _ _ c.requires.room.1 c.requires.none_free _ (sym c.stale_slot.ensures ∙ c.in_ok-slot.was) _ _ _ c.reclaim_stale_reader_slots.ensures _ _ _ _ c.take_slot.ensures

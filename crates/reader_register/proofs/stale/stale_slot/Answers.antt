@@ -1,17 +1,13 @@
-use Rattle.reader_slots.proofs.Lowest.{lowest_here, lowest_next, lowest_done}
+use Rattle.reader_slots.proofs.Lowest.{lowest_by_find}
+use Rattle.reader_register.specs.Inner.{stale_by}
+use Rattle.std.proofs.Common.{rules, refl, tests}
 use native.Mathlib.Nat.{sub-zero}
-use mathlib.Core.Path.{sym, ◌∙◌}
-use native.Mathlib.Omega.{arith}
+use Rattle.std.proofs.lemmas.Iterator.{YieldsList-from_range}
+use Rattle.std.proofs.lemmas.Iterator.Search.{find_from_yields_List}
 use Rattle.reader_register.proofs.stale.stale_slot.Goals as goal
 
-pub loop-slot-init : goal.loop-slot-init
-loop-slot-init c = (omega arith, rw sub-zero)
-
-pub returns-then-is_stale : goal.returns-then-is_stale
-returns-then-is_stale c = lowest_here _ _ _ _ c.loop-slot.invariant.1 (omega arith) (rw (← c.bit-bit.ensures) (sym c.is_stale.ensures ∙ c.if-is_stale.true))
-
-pub loop-slot-preserved : goal.loop-slot-preserved
-loop-slot-preserved c = (omega arith, lowest_next _ _ _ _ c.loop-slot.invariant.1 _ (omega arith) (rw (← c.bit-bit.ensures) (sym c.is_stale.ensures ∙ c.if-is_stale.false)))
-
 pub returns : goal.returns
-returns c = lowest_done _ _ _ _ c.loop-slot.invariant.1 (omega arith)
+returns c =
+    let n = c.args.n in
+    let test = stale_by c.args.mode c.args.card.now c.args.bitmap.now c.args.reader_owners.now c.args.local_readers.now in
+    lowest_by_find test test n _ (find_from_yields_List test _ _ _ c.find.ensures.ran (YieldsList-from_range 0 n n refl (sub-zero n)) (λ x b q k. search (rules, tests))) (λ j b. refl)

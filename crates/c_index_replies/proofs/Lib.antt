@@ -1,2 +1,0 @@
--- Laws of the replies.
-mod IndexReplies

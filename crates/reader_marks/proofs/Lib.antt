@@ -1,2 +1,0 @@
--- Laws of records that are wanted.
-pub mod Picked
