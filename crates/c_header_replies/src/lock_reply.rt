@@ -7,7 +7,7 @@ ghost use Rattle.c_header_replies.specs.InnerTold.{lock_told};
 ghost use Rattle.c_header_replies.specs.LockReply.{LockReplied};
 
 use header_locks::Lock;
-use wal_types::refusal::Refusal;
+use wal_types::refusal::{Refusal, refusal_told};
 use wal_types::{Header, SharedOwnerRecord, SharedWalOwnershipMode};
 
 // A lock call's answer in numbers. refusal: 0, or the number of the refusal. answer: 1 if the lock was taken or
@@ -23,17 +23,10 @@ pub struct LockReply {
 fn told(answer: Result<bool, Refusal>, local_owner: SharedOwnerRecord) -> LockReply
     ensures { result ≡ lock_told answer local_owner.0 }
 {
-    match answer {
-        Ok(done) => LockReply {
-            refusal: 0,
-            answer: u32::from(done),
-            local_owner: local_owner.0,
-        },
-        Err(refusal) => LockReply {
-            refusal: u32::from(refusal),
-            answer: 0,
-            local_owner: local_owner.0,
-        },
+    LockReply {
+        refusal: refusal_told(answer),
+        answer: u32::from(answer.unwrap_or(false)),
+        local_owner: local_owner.0,
     }
 }
 

@@ -20,6 +20,7 @@ use c_index_replies::{index_reply, lookup_reply};
 use index_find::find;
 use index_scan::{between, nearest};
 use wal_types::Header;
+use wal_types::settings::IndexSettings;
 
 // Appends the entry (page_id, frame_id). grow is the file's answer to a growth by one block: 0 no, else yes.
 #[unsafe(no_mangle)]
@@ -36,13 +37,13 @@ pub extern "C" fn wal_record_frame(
 ) -> IndexReply
     ensures { IndexReplied (record_frame capacity max_blocks page_id frame_id (not (eqb grow 0))) header.old pages.old frames.old hash.old result header.new pages.new frames.new hash.new }
 {
-    let done = index_reply::record_frame(
-        capacity, max_blocks, *header, pages, frames, hash, page_id, frame_id, grow,
-    );
-    if let Some(cells) = done.cells {
-        *header = cells.put_in(*header);
-    }
-    done.reply
+    let settings = IndexSettings {
+        capacity,
+        max_blocks,
+    };
+    index_reply::record_frame(
+        settings, header, pages, frames, hash, page_id, frame_id, grow,
+    )
 }
 
 // Drops the entries from the end whose frame is above max_frame.
@@ -58,13 +59,11 @@ pub extern "C" fn wal_rollback_frames(
 ) -> IndexReply
     ensures { IndexReplied (rollback_frames capacity max_blocks max_frame) header.old pages.now frames.now hash.old result header.new pages.now frames.now hash.new }
 {
-    let done = index_reply::rollback_frames(
-        capacity, max_blocks, *header, pages, frames, hash, max_frame,
-    );
-    if let Some(cells) = done.cells {
-        *header = cells.put_in(*header);
-    }
-    done.reply
+    let settings = IndexSettings {
+        capacity,
+        max_blocks,
+    };
+    index_reply::rollback_frames(settings, header, pages, frames, hash, max_frame)
 }
 
 // Looks up the latest frame of a page, and counts the hash cells that it looks at. has_watermark: 0 if there is none, else watermark is it.
@@ -84,10 +83,13 @@ pub extern "C" fn wal_find_frame(
 ) -> FindReply
     ensures { FindReplied (find_frame capacity max_blocks page_id min_frame max_frame (watermark_given has_watermark watermark)) (find_looked capacity max_blocks page_id min_frame max_frame (watermark_given has_watermark watermark)) header pages.now frames.now hash.now result }
 {
-    let frame_watermark = lookup_reply::watermark_of(has_watermark, watermark);
-    let looked = find::find_frame(
+    let settings = IndexSettings {
         capacity,
         max_blocks,
+    };
+    let frame_watermark = lookup_reply::watermark_of(has_watermark, watermark);
+    let looked = find::find_frame(
+        settings,
         header,
         pages,
         frames,
@@ -114,8 +116,12 @@ pub extern "C" fn wal_frame_between(
 ) -> FrameReply
     ensures { Undecided (frame_between capacity max_blocks page_id min_frame max_frame) (λ call. FrameReplied call header pages.now frames.now result) × BetweenReplied (entries_of header.frame_index_len pages.now frames.now) page_id min_frame max_frame result }
 {
+    let settings = IndexSettings {
+        capacity,
+        max_blocks,
+    };
     FrameReply::from(between::frame_between(
-        capacity, max_blocks, header, pages, frames, page_id, min_frame, max_frame,
+        settings, header, pages, frames, page_id, min_frame, max_frame,
     ))
 }
 
@@ -132,9 +138,11 @@ pub extern "C" fn wal_nearest_frame(
 ) -> FrameReply
     ensures { FrameReplied (nearest_frame capacity max_blocks page_id to_frame) header pages.now frames.now result }
 {
-    FrameReply::from(nearest::nearest_frame(
-        capacity, max_blocks, header, pages, frames, page_id, to_frame,
-    ))
+    let settings = IndexSettings {
+        capacity,
+        max_blocks,
+    };
+    FrameReply::from(nearest::nearest_frame(settings, header, pages, frames, page_id, to_frame))
 }
 
 // Lists each page's latest frame within the bounds, by rising page: pages to out_pages, frames to out_frames.
@@ -153,9 +161,12 @@ pub extern "C" fn wal_iter_latest_frames(
 ) -> ListReply
     ensures { ListReplied (iter_latest_frames capacity max_blocks min_frame max_frame (length out_pages.old) (length out_frames.old)) header pages.now frames.now hash.now result out_pages.old out_frames.old out_pages.new out_frames.new }
 {
+    let settings = IndexSettings {
+        capacity,
+        max_blocks,
+    };
     let listed = list_latest::iter_latest_frames(
-        capacity, max_blocks, header, pages, frames, hash, min_frame, max_frame, out_pages,
-        out_frames,
+        settings, header, pages, frames, hash, min_frame, max_frame, out_pages, out_frames,
     );
     ListReply::from(listed)
 }

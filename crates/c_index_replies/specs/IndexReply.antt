@@ -1,22 +1,15 @@
 -- The replies of the calls that change the index. Assumes nothing.
-use Rattle.std.specs.Prelude.{◌≡◌, Option, Some, None, List, ℕ}
+use Rattle.std.specs.Prelude.{◌≡◌, List, ℕ}
 use Rattle.wal_types.specs.declared.Header.{Header}
 use Rattle.wal_types.specs.Memory.{Memory, Process}
 use Rattle.wal_types.specs.Call.{Call, Answer, Done, after}
 use Rattle.index_find.specs.Index.{index_in}
-use Rattle.index_end.specs.declared.cells.IndexCells.{IndexCells}
-use Rattle.index_end.specs.Cells.{with_cells}
 use Rattle.c_index_replies.specs.declared.index_reply.IndexReply.{IndexReply}
 use Rattle.c_numbers.specs.Reply.{refusal_number, answer_number}
 
 -- an answer in numbers
 abbrev pub reply_of : Answer → IndexReply
 reply_of a = record { refusal = refusal_number a; answer = answer_number a }
-
--- the header with these cells stored into it, if there are any to store
-abbrev pub header_left : Option IndexCells → Header → Header
-header_left (Some cells) h = with_cells cells h
-header_left None h = h
 
 -- The reply tells what the call answers, the header and index are as it leaves them, and nothing else changes.
 pub record Told (r : IndexReply) (z : Memory) (h : Header) (ps fs hs : List ℕ) (p : Process) (d : Done) : Type 0 where

@@ -2,11 +2,11 @@
 use Rattle.std.specs.Prelude.{Option, Some, None, Result, Ok, Err, ℕ}
 use Rattle.wal_types.specs.declared.SharedWalOwnershipMode.{SharedWalOwnershipMode}
 use Rattle.wal_types.specs.declared.SharedWalOwnershipMode.TheVariants.{LinuxOfd}
+use Rattle.wal_types.specs.declared.settings.ReaderSettings.{ReaderSettings}
 use Rattle.wal_types.specs.declared.refusal.Refusal.{Refusal}
 use Rattle.wal_types.specs.Refusal.{number}
 use Rattle.wal_types.specs.Call.{Answer, refused, slot_taken, none, if_slot}
 use Rattle.c_numbers.specs.Reply.{refusal_number, answer_number, found_number}
-use Rattle.c_reader_replies.specs.declared.Settings.{Settings}
 use Rattle.c_reader_replies.specs.declared.HeldSlot.{HeldSlot}
 use Rattle.c_reader_replies.specs.declared.ReaderReply.{ReaderReply}
 use Rattle.c_reader_replies.specs.declared.FloorReply.{FloorReply}
@@ -14,13 +14,13 @@ use Rattle.c_reader_replies.specs.declared.DbFileReply.{DbFileReply}
 use Rattle.c_reader_replies.specs.declared.LimitReply.{LimitReply}
 
 -- A mode with the number of slots: 0 of them where the mode is unknown.
-abbrev pub settings_given : Result SharedWalOwnershipMode Refusal → ℕ → Settings
+abbrev pub settings_given : Result SharedWalOwnershipMode Refusal → ℕ → ReaderSettings
 settings_given (Ok mode) n = record { n = n; mode = mode }
 settings_given (Err r) n = record { n = 0; mode = LinuxOfd }
 
 -- What a slot that is held tells, none, or a refusal.
 abbrev pub held_answer : Result (Option HeldSlot) Refusal → Answer
-held_answer (Ok (Some held)) = slot_taken held.slot held.owner.0 held.mark
+held_answer (Ok (Some held)) = slot_taken held.slot held.reader.owner.0 held.reader.mark
 held_answer (Ok None) = none
 held_answer (Err r) = refused (number r)
 

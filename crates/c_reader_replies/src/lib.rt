@@ -12,8 +12,9 @@ ghost use Rattle.reader_shared.specs.Shared.{share_answer};
 ghost use Rattle.c_reader_replies.specs.ReaderReply.{settings_given, no_slot, held_answer, reader_reply, floor_reply, db_file_reply, limit_reply};
 
 use reader_shared::shared::SharePlan;
-use wal_types::refusal::Refusal;
-use wal_types::{SharedOwnerRecord, SharedWalOwnershipMode};
+use wal_types::SharedWalOwnershipMode;
+use wal_types::refusal::{Refusal, refusal_told};
+use wal_types::settings::{Reader, ReaderSettings};
 
 // The answer of a registration or a move in numbers. refusal: 0, or the number of the refusal. taken: 1 if a slot is held,
 // and then slot, owner and mark are its number, its owner and its mark; else 0, and they are 0.
@@ -52,43 +53,25 @@ pub struct LimitReply {
     pub limit: u64,
 }
 
-// The number of slots and the lock mode.
-#[derive(Clone, Copy)]
-pub struct Settings {
-    pub n: usize,
-    pub mode: SharedWalOwnershipMode,
-}
-
 // The settings of two numbers. Where mode is no lock mode's number there are 0 slots, and every call is refused with 1. (A Result
 // would have each C function end in two ways: so the call itself refuses, by the test that it makes in any case.)
-pub fn settings_of(n: usize, mode: u32) -> Settings
+pub fn settings_of(n: usize, mode: u32) -> ReaderSettings
     ensures { result ≡ settings_given (mode_given mode) n }
 {
     match SharedWalOwnershipMode::try_from(mode) {
-        Ok(given) => Settings { n, mode: given },
-        Err(_) => Settings {
+        Ok(given) => ReaderSettings { n, mode: given },
+        Err(_) => ReaderSettings {
             n: 0,
             mode: SharedWalOwnershipMode::LinuxOfd,
         },
     }
 }
 
-// 0, or the number of the refusal.
-pub fn refusal_told<T: Copy>(answer: Result<T, Refusal>) -> u32
-    ensures { result ≡ refused_number answer }
-{
-    match answer {
-        Ok(_) => 0,
-        Err(refusal) => u32::from(refusal),
-    }
-}
-
-// A slot that is held, with its owner and its mark.
+// A slot that is held, with its reader.
 #[derive(Clone, Copy)]
 struct HeldSlot {
     slot: u64,
-    owner: SharedOwnerRecord,
-    mark: u64,
+    reader: Reader,
 }
 
 // refusal is 0 where there is none.
@@ -112,38 +95,28 @@ fn held_told(answer: Result<Option<HeldSlot>, Refusal>) -> ReaderReply
             refusal: 0,
             taken: 1,
             slot: held.slot,
-            owner: held.owner.0,
-            mark: held.mark,
+            owner: held.reader.owner.0,
+            mark: held.reader.mark,
         },
         Ok(None) => without_slot(0),
         Err(refusal) => without_slot(u32::from(refusal)),
     }
 }
 
-pub fn register_told(
-    answer: Result<Option<usize>, Refusal>,
-    owner: SharedOwnerRecord,
-    mark: u64,
-) -> ReaderReply
-    ensures { result ≡ reader_reply (register_answer owner.0 mark answer) }
+pub fn register_told(answer: Result<Option<usize>, Refusal>, reader: Reader) -> ReaderReply
+    ensures { result ≡ reader_reply (register_answer reader.owner.0 reader.mark answer) }
 {
     let slot_held = |slot| HeldSlot {
         slot: slot as u64,
-        owner,
-        mark,
+        reader,
     };
     held_told(answer.map(|found| found.map(slot_held)))
 }
 
-pub fn move_told(
-    answer: Result<(), Refusal>,
-    slot: usize,
-    owner: SharedOwnerRecord,
-    mark: u64,
-) -> ReaderReply
-    ensures { result ≡ reader_reply (update_answer slot owner.0 mark answer) }
+pub fn move_told(answer: Result<(), Refusal>, slot: usize, reader: Reader) -> ReaderReply
+    ensures { result ≡ reader_reply (update_answer slot reader.owner.0 reader.mark answer) }
 {
-    register_told(answer.map(|()| Some(slot)), owner, mark)
+    register_told(answer.map(|()| Some(slot)), reader)
 }
 
 impl From<Result<Option<SharePlan>, Refusal>> for ReaderReply {
@@ -152,8 +125,7 @@ impl From<Result<Option<SharePlan>, Refusal>> for ReaderReply {
     fn from(answer: Result<Option<SharePlan>, Refusal>) -> ReaderReply {
         let plan_held = |plan: SharePlan| HeldSlot {
             slot: u64::from(plan.taken.slot),
-            owner: plan.taken.owner,
-            mark: plan.taken.mark,
+            reader: plan.taken.reader,
         };
         held_told(answer.map(|plan| plan.map(plan_held)))
     }

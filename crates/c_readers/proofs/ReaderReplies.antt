@@ -10,24 +10,29 @@ use Rattle.std.specs.Bool.{⊤}
 use Rattle.wal_types.specs.declared.SharedReadMark.{SharedReadMark}
 use Rattle.wal_types.specs.declared.SharedWalOwnershipMode.{SharedWalOwnershipMode}
 use Rattle.wal_types.specs.declared.SharedWalOwnershipMode.TheVariants.{LinuxOfd, ProcessScopedFcntl}
+use Rattle.wal_types.specs.declared.settings.ReaderSettings.{ReaderSettings}
 use Rattle.wal_types.specs.declared.refusal.Refusal.{Refusal}
 use Rattle.wal_types.specs.declared.refusal.Refusal.TheVariants.{Settings as BadSettings}
 use Rattle.wal_types.specs.Refusal.{refused_number}
 use Rattle.wal_types.specs.Memory.{Memory, Process}
 use Rattle.wal_types.specs.Mode.{mode_given}
 use Rattle.wal_types.specs.Call.{Call, Answer, Done, refusal, after, done}
-use Rattle.reader_slots.specs.Slots.{is_in_registry, ReaderCall}
+use Rattle.reader_slots.specs.Slots.{is_in_registry}
+use Rattle.reader_slots.specs.declared.slots.SharedSlots.{SharedSlots}
+use Rattle.reader_slots.specs.Inner.{LentCall}
 use Rattle.reader_register.specs.Register.{register_reader}
-use Rattle.reader_moves.specs.Update.{unregister_reader, release_answer, MoveCall, ReleaseCall}
+use Rattle.reader_moves.specs.Update.{unregister_reader, release_answer, MoveCall}
+use Rattle.reader_moves.specs.declared.update.SlotInRegistry.{SlotInRegistry}
+use Rattle.reader_moves.specs.Inner.{LentRelease}
 use Rattle.reader_floor.specs.Floor.{min_active_reader_frame, has_active_db_file_reader}
-use Rattle.reader_limit.specs.Limit.{copy_back_limit, LimitCall}
-use Rattle.reader_marks.specs.declared.Seen.{Seen}
+use Rattle.reader_limit.specs.Limit.{copy_back_limit}
+use Rattle.reader_limit.specs.Inner.{LentLimit}
+use Rattle.reader_marks.specs.declared.MarkInRegistry.{MarkInRegistry}
 use Rattle.reader_marks.specs.InnerScan.{seen_of}
 use Rattle.reader_shared.specs.Shared.{register_reader_for_snapshot, unregister_reader_for_snapshot, unshare_answer, registry_in}
 use Rattle.reader_shared.specs.Inner.{PlanCall, PlanCarried}
 use Rattle.c_numbers.specs.Mode.{with_mode}
 use Rattle.c_numbers.specs.Reply.{refusal_number}
-use Rattle.c_reader_replies.specs.declared.Settings.{Settings}
 use Rattle.c_reader_replies.specs.ReaderReply.{settings_given}
 use Rattle.c_readers.specs.ReaderReplied.{Told, SlotsReplied, RegistryReplied, MoveReplied, LimitReplied}
 
@@ -76,6 +81,10 @@ unshare_number (Err r) = refl
 pub told_by : {R : Type 0} (reply_of : Answer → R) (r : R) (a : Answer) (m : Memory) (p : Process) (d : Done) → r ≡ reply_of a → d ≡ done a m p → Told reply_of r m p d
 told_by reply_of r a m p d er ed = rw ed (record { reply_told = er; memory_left = refl; process_left = refl })
 
+-- the lent lists as the caller has them after the call
+abbrev pub Left : SharedSlots → List ℕ → List ℕ → List ℕ → Type 0
+Left v b f o = (b ≡ v.bitmap.now) × (f ≡ v.reader_frames.now) × (o ≡ v.reader_owners.now)
+
 module _ {R : Type 0} (reply_of : Answer → R) (call : ℕ → SharedWalOwnershipMode → Call) (needs : NeedsSlots call) where
   -- the call with its mode's number is the call with the settings that are given for it
   by_settings : (mode n : ℕ) (m : Memory) (p : Process) → after (with_mode (mode_given mode) (call n)) m p ≡ after (call (settings_given (mode_given mode) n).n (settings_given (mode_given mode) n).mode) m p
@@ -87,24 +96,24 @@ module _ {R : Type 0} (reply_of : Answer → R) (call : ℕ → SharedWalOwnersh
       go false true = refl
       go false false = rw (needs LinuxOfd m p)
 
-  module _ (mode n : ℕ) (s : Settings) (given : s ≡ settings_given (mode_given mode) n) (a : Answer) (r : R) (told : r ≡ reply_of a) where
+  module _ (mode n : ℕ) (s : ReaderSettings) (given : s ≡ settings_given (mode_given mode) n) (a : Answer) (r : R) (told : r ≡ reply_of a) where
     told_of : (m m' : Memory) (p p' : Process) → after (call s.n s.mode) m p ≡ done a m' p' → Told reply_of r m' p' (after (with_mode (mode_given mode) (call n)) m p)
     told_of m m' p p' e = told_by reply_of r a m' p' _ told (by_settings mode n m p ∙ rw (← given) e)
 
-    pub slots_told : (b f o l b' f' o' l' : List ℕ) → ReaderCall (call s.n s.mode) b f o l a b' f' o' l' → SlotsReplied reply_of (with_mode (mode_given mode) (call n)) b f o l r b' f' o' l'
-    slots_told b f o l b' f' o' l' e z p = told_of _ _ _ _ (e z p)
+    pub slots_told : (v : SharedSlots) (l : List ℕ) (v' : SharedSlots) (l' : List ℕ) → LentCall (call s.n s.mode) v l a v' l' → (b' f' o' : List ℕ) → Left v' b' f' o' → SlotsReplied reply_of (with_mode (mode_given mode) (call n)) v.bitmap.now v.reader_frames.now v.reader_owners.now l r b' f' o' l'
+    slots_told v l v' l' e b' f' o' left z p = rw (left.0, left.1, left.2) (told_of _ _ _ _ (e.1 z p))
 
-    pub limit_told : (published copied : ℕ) (b f o l b' f' o' : List ℕ) → LimitCall (call s.n s.mode) published copied b f o l a b' f' o' → LimitReplied reply_of (with_mode (mode_given mode) (call n)) published copied b f o l r b' f' o'
-    limit_told published copied b f o l b' f' o' e z p is_published is_copied = told_of _ _ _ _ (e z p is_published is_copied)
+    pub limit_told : (published copied : ℕ) (v : SharedSlots) (l : List ℕ) (v' : SharedSlots) → LentLimit (call s.n s.mode) published copied v l a v' → (b' f' o' : List ℕ) → Left v' b' f' o' → LimitReplied reply_of (with_mode (mode_given mode) (call n)) published copied v.bitmap.now v.reader_frames.now v.reader_owners.now l r b' f' o'
+    limit_told published copied v l v' e b' f' o' left z p is_published is_copied = rw (left.0, left.1, left.2) (told_of _ _ _ _ (e.1 z p is_published is_copied))
 
     -- a release, where this registry has the slot or not
-    pub release_told : (slot : ℕ) (shared : Bool) (g : List SharedReadMark) → shared ≡ is_in_registry s.n g slot → (b f o l b' f' o' l' : List ℕ) → ReleaseCall s.n slot shared (length g) (call s.n s.mode) b f o l a b' f' o' l' → RegistryReplied reply_of (with_mode (mode_given mode) (call n)) b f o l g r b' f' o' l' g
-    release_told slot shared g is b f o l b' f' o' l' e z p = told_of _ _ _ _ (e z (registry_in p l g) (sym is) refl)
+    pub release_told : (slot : ℕ) (g : List SharedReadMark) (told : SlotInRegistry) → told.is_shared ≡ is_in_registry s.n g slot → told.records ≡ length g → (v : SharedSlots) (l : List ℕ) (v' : SharedSlots) (l' : List ℕ) → LentRelease s.n slot told (call s.n s.mode) v l a v' l' → (b' f' o' : List ℕ) → Left v' b' f' o' → RegistryReplied reply_of (with_mode (mode_given mode) (call n)) v.bitmap.now v.reader_frames.now v.reader_owners.now l g r b' f' o' l' g
+    release_told slot g told is long v l v' l' e b' f' o' left z p = rw (left.0, left.1, left.2) (told_of _ _ _ _ (e.1 z (registry_in p l g) (sym is) (sym long)))
 
     -- a plan, where this is seen of the registry, and the change made of it
-    pub plan_told : (mark : ℕ) (seen : Seen) (g : List SharedReadMark) → seen ≡ seen_of (min s.n (length g)) g mark → (b f o l b' f' o' l' : List ℕ) (change : List SharedReadMark → List SharedReadMark) → PlanCall s.n mark seen (length g) (call s.n s.mode) b f o l a b' f' o' l' change → RegistryReplied reply_of (with_mode (mode_given mode) (call n)) b f o l g r b' f' o' l' (change g)
+    pub plan_told : (mark : ℕ) (g : List SharedReadMark) (told : MarkInRegistry) → told.seen ≡ seen_of (min s.n (length g)) g mark → told.records ≡ length g → (v : SharedSlots) (l : List ℕ) (v' : SharedSlots) (l' : List ℕ) (change : List SharedReadMark → List SharedReadMark) → PlanCall s.n mark told (call s.n s.mode) v l a v' l' change → (b' f' o' : List ℕ) → Left v' b' f' o' → RegistryReplied reply_of (with_mode (mode_given mode) (call n)) v.bitmap.now v.reader_frames.now v.reader_owners.now l g r b' f' o' l' (change g)
     unfolding PlanCarried
-    plan_told mark seen g looked b f o l b' f' o' l' change e z p = told_of _ _ _ _ (e g looked refl z p)
+    plan_told mark g told looked long v l v' l' change e b' f' o' left z p = rw (left.0, left.1, left.2) (told_of _ _ _ _ (e.1 g looked long z p))
 
 -- a move, where this registry has the slot or not
 pub move_told : {R : Type 0} (reply_of : Answer → R) (call : Call) (n slot : ℕ) (shared : Bool) (g : List SharedReadMark) → shared ≡ is_in_registry n g slot → (f o : List ℕ) (a : Answer) (f' : List ℕ) → MoveCall n slot shared (length g) call f o a f' → (r : R) → r ≡ reply_of a → MoveReplied reply_of call f o g r f'

@@ -15,11 +15,15 @@ ghost use Rattle.c_readers.specs.ReaderReplied.{SlotsReplied, MoveReplied, Regis
 use c_reader_replies::{DbFileReply, FloorReply, LimitReply, ReaderReply};
 use reader_floor::floor;
 use reader_limit::limit;
+use reader_marks::MarkInRegistry;
 use reader_moves::update;
+use reader_moves::update::SlotInRegistry;
 use reader_register::register;
 use reader_shared::shared::{RecordChange, SharePlan};
+use reader_slots::slots::SharedSlots;
 use wal_types::refusal::Refusal;
-use wal_types::{SharedOwnerRecord, SharedReadMark};
+use wal_types::settings::Reader;
+use wal_types::{SharedOwnerRecord, SharedReadMark, refusal};
 
 // Takes a reader slot at a mark. card is the byte locks' answers, one for each slot: 0 busy, 1 granted, 2 error.
 pub fn wal_register_reader(
@@ -35,20 +39,18 @@ pub fn wal_register_reader(
 ) -> ReaderReply
     ensures { SlotsReplied reader_reply (with_mode (mode_given mode) (λ given. register_reader n given owner mark card.now)) bitmap.old reader_frames.old reader_owners.old local_readers.old result bitmap.new reader_frames.new reader_owners.new local_readers.new }
 {
-    let offered = SharedOwnerRecord(owner);
-    let given = c_reader_replies::settings_of(n, mode);
-    let answer = register::register_reader(
-        given.n,
-        given.mode,
+    let reader = Reader {
+        owner: SharedOwnerRecord(owner),
+        mark,
+    };
+    let settings = c_reader_replies::settings_of(n, mode);
+    let mut slots = SharedSlots {
         bitmap,
         reader_frames,
         reader_owners,
-        local_readers,
-        card,
-        offered,
-        mark,
-    );
-    c_reader_replies::register_told(answer, offered, mark)
+    };
+    let answer = register::register_reader(settings, &mut slots, local_readers, card, reader);
+    c_reader_replies::register_told(answer, reader)
 }
 
 // Moves a reader to another mark.
@@ -63,19 +65,16 @@ pub fn wal_update_reader(
 ) -> ReaderReply
     ensures { MoveReplied reader_reply (update_reader n slot owner mark) reader_frames.old reader_owners.now registry.now result reader_frames.new }
 {
-    let offered = SharedOwnerRecord(owner);
-    let in_registry = reader_registry::slot_is_shared(registry, n, slot);
-    let answer = update::update_core(
-        n,
-        reader_frames,
-        reader_owners,
-        slot,
-        offered,
+    let reader = Reader {
+        owner: SharedOwnerRecord(owner),
         mark,
-        in_registry,
-        registry.len(),
-    );
-    c_reader_replies::move_told(answer, slot, offered, mark)
+    };
+    let in_registry = SlotInRegistry {
+        records: registry.len(),
+        is_shared: reader_registry::slot_is_shared(registry, n, slot),
+    };
+    let answer = update::update_core(n, reader_frames, reader_owners, slot, reader, in_registry);
+    c_reader_replies::move_told(answer, slot, reader)
 }
 
 // Releases a reader's slot. Answers 0, or the number of the refusal.
@@ -92,22 +91,25 @@ pub fn wal_unregister_reader(
 ) -> u32
     ensures { RegistryReplied refusal_number (with_mode (mode_given mode) (λ given. unregister_reader n given slot owner)) bitmap.old reader_frames.old reader_owners.old local_readers.old registry.now result bitmap.new reader_frames.new reader_owners.new local_readers.new registry.now }
 {
-    let offered = SharedOwnerRecord(owner);
-    let given = c_reader_replies::settings_of(n, mode);
-    let in_registry = reader_registry::slot_is_shared(registry, given.n, slot);
-    let answer = update::unregister_core(
-        given.n,
-        given.mode,
+    let settings = c_reader_replies::settings_of(n, mode);
+    let in_registry = SlotInRegistry {
+        records: registry.len(),
+        is_shared: reader_registry::slot_is_shared(registry, settings.n, slot),
+    };
+    let mut slots = SharedSlots {
         bitmap,
         reader_frames,
         reader_owners,
+    };
+    let answer = update::unregister_core(
+        settings,
+        &mut slots,
         local_readers,
         slot,
-        offered,
+        SharedOwnerRecord(owner),
         in_registry,
-        registry.len(),
     );
-    c_reader_replies::refusal_told(answer)
+    refusal::refusal_told(answer)
 }
 
 // Makes the change of the registry that a shared registration plans, if it takes a slot.
@@ -117,16 +119,11 @@ fn change_registry(registry: &mut [SharedReadMark], answer: Result<Option<ShareP
     let Ok(Some(plan)) = answer else {
         return;
     };
-    let taken = plan.taken;
     match plan.change {
         RecordChange::Retained(at) => reader_registry::retain_shared_snapshot_reader(registry, at),
-        RecordChange::Published(at) => reader_registry::publish_shared_snapshot_reader(
-            registry,
-            at,
-            taken.mark,
-            taken.slot,
-            taken.owner,
-        ),
+        RecordChange::Published(at) => {
+            reader_registry::publish_shared_snapshot_reader(registry, at, plan.taken)
+        }
     }
 }
 
@@ -146,21 +143,27 @@ pub fn wal_register_reader_for_snapshot(
 ) -> ReaderReply
     ensures { RegistryReplied reader_reply (with_mode (mode_given mode) (λ given. register_reader_for_snapshot n given owner mark card.now)) bitmap.old reader_frames.old reader_owners.old local_readers.old registry.old result bitmap.new reader_frames.new reader_owners.new local_readers.new registry.new }
 {
-    let offered = SharedOwnerRecord(owner);
-    let given = c_reader_replies::settings_of(n, mode);
-    let seen = reader_registry::look_through(registry, given.n, mark);
-    let answer = reader_plans::share_plan(
-        given.n,
-        given.mode,
+    let reader = Reader {
+        owner: SharedOwnerRecord(owner),
+        mark,
+    };
+    let settings = c_reader_replies::settings_of(n, mode);
+    let in_registry = MarkInRegistry {
+        records: registry.len(),
+        seen: reader_registry::look_through(registry, settings.n, mark),
+    };
+    let mut slots = SharedSlots {
         bitmap,
         reader_frames,
         reader_owners,
+    };
+    let answer = reader_plans::share_plan(
+        settings,
+        &mut slots,
         local_readers,
-        registry.len(),
-        seen,
+        in_registry,
         card,
-        offered,
-        mark,
+        reader,
     );
     change_registry(registry, answer);
     ReaderReply::from(answer)
@@ -181,26 +184,32 @@ pub fn wal_unregister_reader_for_snapshot(
 ) -> u32
     ensures { RegistryReplied refusal_number (with_mode (mode_given mode) (λ given. unregister_reader_for_snapshot n given mark slot owner)) bitmap.old reader_frames.old reader_owners.old local_readers.old registry.old result bitmap.new reader_frames.new reader_owners.new local_readers.new registry.new }
 {
-    let offered = SharedOwnerRecord(owner);
-    let given = c_reader_replies::settings_of(n, mode);
-    let seen = reader_registry::look_through(registry, given.n, mark);
-    let answer = reader_plans::unshare_plan(
-        given.n,
-        given.mode,
+    let reader = Reader {
+        owner: SharedOwnerRecord(owner),
+        mark,
+    };
+    let settings = c_reader_replies::settings_of(n, mode);
+    let in_registry = MarkInRegistry {
+        records: registry.len(),
+        seen: reader_registry::look_through(registry, settings.n, mark),
+    };
+    let mut slots = SharedSlots {
         bitmap,
         reader_frames,
         reader_owners,
+    };
+    let answer = reader_plans::unshare_plan(
+        settings,
+        &mut slots,
         local_readers,
-        registry.len(),
-        seen,
-        mark,
+        in_registry,
+        reader,
         slot,
-        offered,
     );
     if let Ok(place) = answer {
         reader_registry::release_shared_snapshot_reader(registry, place);
     }
-    c_reader_replies::refusal_told(answer)
+    refusal::refusal_told(answer)
 }
 
 // The least mark above 0 of all live readers. card is as in wal_register_reader.
@@ -215,16 +224,13 @@ pub fn wal_min_active_reader_frame(
 ) -> FloorReply
     ensures { SlotsReplied floor_reply (with_mode (mode_given mode) (λ given. min_active_reader_frame n given card.now)) bitmap.old reader_frames.old reader_owners.old local_readers.now result bitmap.new reader_frames.new reader_owners.new local_readers.now }
 {
-    let given = c_reader_replies::settings_of(n, mode);
-    let answer = floor::min_active_reader_frame(
-        given.n,
-        given.mode,
+    let settings = c_reader_replies::settings_of(n, mode);
+    let mut slots = SharedSlots {
         bitmap,
         reader_frames,
         reader_owners,
-        local_readers,
-        card,
-    );
+    };
+    let answer = floor::min_active_reader_frame(settings, &mut slots, local_readers, card);
     FloorReply::from(answer)
 }
 
@@ -240,16 +246,13 @@ pub fn wal_has_active_db_file_reader(
 ) -> DbFileReply
     ensures { SlotsReplied db_file_reply (with_mode (mode_given mode) (λ given. has_active_db_file_reader n given card.now)) bitmap.old reader_frames.old reader_owners.old local_readers.now result bitmap.new reader_frames.new reader_owners.new local_readers.now }
 {
-    let given = c_reader_replies::settings_of(n, mode);
-    let answer = floor::has_active_db_file_reader(
-        given.n,
-        given.mode,
+    let settings = c_reader_replies::settings_of(n, mode);
+    let mut slots = SharedSlots {
         bitmap,
         reader_frames,
         reader_owners,
-        local_readers,
-        card,
-    );
+    };
+    let answer = floor::has_active_db_file_reader(settings, &mut slots, local_readers, card);
     DbFileReply::from(answer)
 }
 
@@ -268,15 +271,17 @@ pub fn wal_copy_back_limit(
 ) -> LimitReply
     ensures { LimitReplied limit_reply (with_mode (mode_given mode) (λ given. copy_back_limit n given card.now)) max_frame nbackfills bitmap.old reader_frames.old reader_owners.old local_readers.now result bitmap.new reader_frames.new reader_owners.new }
 {
-    let given = c_reader_replies::settings_of(n, mode);
-    let answer = limit::copy_back_limit(
-        given.n,
-        given.mode,
-        max_frame,
-        nbackfills,
+    let settings = c_reader_replies::settings_of(n, mode);
+    let mut slots = SharedSlots {
         bitmap,
         reader_frames,
         reader_owners,
+    };
+    let answer = limit::copy_back_limit(
+        settings,
+        max_frame,
+        nbackfills,
+        &mut slots,
         local_readers,
         card,
     );

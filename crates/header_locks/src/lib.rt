@@ -7,8 +7,9 @@ ghost use Rattle.wal_types.specs.Memory.{header_with};
 ghost use Rattle.wal_types.specs.Settings.{is_fcntl};
 ghost use Rattle.header_locks.specs.Locks.{owner_cell, try_acquire, acquire_answer, release, release_answer, LockCall};
 
+use wal_types::byte_lock::ByteLock;
 use wal_types::refusal::Refusal;
-use wal_types::{Header, SharedOwnerRecord, SharedWalOwnershipMode, UNOWNED_LOCK};
+use wal_types::{Header, SharedOwnerRecord, SharedWalOwnershipMode};
 
 #[derive(Clone, Copy)]
 pub enum Lock {
@@ -17,7 +18,8 @@ pub enum Lock {
 }
 
 // An owner goes into the lock's shared cell. Where it is there already nothing is stored, so that such a call can be made on
-// memory that is mapped read-only.
+// memory that is mapped read-only. (A store in each arm: of a header whose cell a match has chosen before, a proof does not know
+// what it becomes.)
 fn set_owner(lock: Lock, header: &mut Header, owner: SharedOwnerRecord)
     ensures { header.new ≡ header_with (owner_cell lock) owner.0 header.old }
 {
@@ -35,7 +37,9 @@ fn set_owner(lock: Lock, header: &mut Header, owner: SharedOwnerRecord)
     }
 }
 
-// Attempts to take a lock: the owner goes into both cells, or the lock is busy.
+// Attempts to take a lock: the owner goes into both cells, or the lock is busy. (The lock, the header and the owners stay
+// parameters: there are two calls, and a struct would be made anew for each.)
+#[tactic(auto, using(crate::proofs::Cells::local_of_with, wal_types::proofs::ByteLocks::off_card, wal_types::proofs::ByteLocks::on_card, wal_types::proofs::ByteLocks::not_granted), unfolding(crate::specs::Locks::try_acquire))]
 pub fn try_acquire(
     lock: Lock,
     header: &mut Header,
@@ -45,21 +49,16 @@ pub fn try_acquire(
 ) -> Result<bool, Refusal>
     ensures { LockCall lock (try_acquire lock owner.0 card) header.old local_owner.old.0 (acquire_answer result) header.new local_owner.new.0 }
 {
-    if owner.0 == UNOWNED_LOCK {
+    if owner == SharedOwnerRecord::UNOWNED {
         return Err(Refusal::NoOwner);
     }
-    if 2 < card {
-        return Err(Refusal::Card);
+    let byte_lock = ByteLock::try_from(card)?;
+    if *local_owner == SharedOwnerRecord::UNOWNED && byte_lock == ByteLock::Granted {
+        set_owner(lock, header, owner);
+        *local_owner = owner;
+        return Ok(true);
     }
-    if local_owner.0 != UNOWNED_LOCK {
-        return Ok(false);
-    }
-    if card != 1 {
-        return Ok(false);
-    }
-    set_owner(lock, header, owner);
-    *local_owner = owner;
-    Ok(true)
+    Ok(false)
 }
 
 // Whether a release is by another than the local owner. LinuxOfd does not compare owners.
@@ -74,6 +73,7 @@ fn by_other_owner(
 }
 
 // Releases a lock: both cells become 0.
+#[tactic(auto, using(crate::proofs::Cells::local_of_with, crate::proofs::Cells::with_twice), unfolding(crate::specs::Locks::release))]
 pub fn release(
     lock: Lock,
     mode: SharedWalOwnershipMode,
@@ -83,17 +83,16 @@ pub fn release(
 ) -> Result<(), Refusal>
     ensures { LockCall lock (release lock mode owner.0) header.old local_owner.old.0 (release_answer result) header.new local_owner.new.0 }
 {
-    if local_owner.0 == UNOWNED_LOCK {
+    if *local_owner == SharedOwnerRecord::UNOWNED {
         return Err(Refusal::NotHeld);
     }
     if by_other_owner(mode, *local_owner, owner) {
         return Err(Refusal::OtherOwner);
     }
-    if owner.0 == UNOWNED_LOCK {
+    if owner == SharedOwnerRecord::UNOWNED {
         return Err(Refusal::NoOwner);
     }
-    let nobody = SharedOwnerRecord(UNOWNED_LOCK);
-    set_owner(lock, header, nobody);
-    *local_owner = nobody;
+    set_owner(lock, header, SharedOwnerRecord::UNOWNED);
+    *local_owner = SharedOwnerRecord::UNOWNED;
     Ok(())
 }

@@ -1,2 +1,3 @@
--- What the publishes and the bumps store to.
+-- What the publishes and the bumps store to, and when a publish changes nothing.
 pub mod Stored
+pub mod Kept

@@ -9,6 +9,7 @@ use wal_types::Header;
 
 // Publishes a committed transaction. A later commit by another process may have raised the published frame or the
 // count already: neither is lowered, and the checksums then stay the later commit's.
+#[tactic(auto, unfolding(crate::specs::Publish::publish_commit))]
 pub fn publish_commit(
     header: &mut Header,
     max_frame: u64,
@@ -31,6 +32,7 @@ pub fn publish_commit(
 
 // Publishes how many frames are copied to the database file. The number that is there already is not stored again, so that
 // such a call can be made on memory that is mapped read-only.
+#[tactic(auto, unfolding(crate::specs::Publish::publish_backfill))]
 pub fn publish_backfill(header: &mut Header, nbackfills: u64)
     ensures { HeaderCall (publish_backfill nbackfills) header.old ok header.new }
 {
@@ -40,6 +42,7 @@ pub fn publish_backfill(header: &mut Header, nbackfills: u64)
 }
 
 // Answers the new checkpoint number.
+#[tactic(auto, unfolding(crate::specs::Publish::bump_checkpoint_seq))]
 pub fn bump_checkpoint_seq(header: &mut Header) -> u32
     ensures { HeaderCall bump_checkpoint_seq header.old (value result) header.new }
 {
@@ -49,6 +52,7 @@ pub fn bump_checkpoint_seq(header: &mut Header) -> u32
 }
 
 // Answers the checkpoint epoch as it was before.
+#[tactic(auto, unfolding(crate::specs::Publish::bump_checkpoint_epoch))]
 pub fn bump_checkpoint_epoch(header: &mut Header) -> u32
     ensures { HeaderCall bump_checkpoint_epoch header.old (value result) header.new }
 {

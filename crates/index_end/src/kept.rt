@@ -2,16 +2,16 @@
 ghost use Rattle.std.specs.Prelude.{◌≡◌, ◌≤◌, length};
 ghost use Rattle.index_end.specs.Kept.{kept_of};
 
-// How many of the first len entries are kept.
-pub fn kept_entries(frames: &[u64], len: usize, max_frame: u64) -> usize
-    requires { len ≤ length frames.now }
-    ensures { (result ≡ kept_of len frames.now max_frame) × (result ≤ len) }
+// How many of the entries with these frames are kept.
+pub fn kept_entries(frames: &[u64], max_frame: u64) -> usize
+    ensures { (result ≡ kept_of (length frames.now) frames.now max_frame) × (result ≤ length frames.now) }
 {
-    // The same by `position` from the end takes a fifth longer for an entry.
-    for entry in (0..len).rev() {
-        if frames[entry] <= max_frame {
-            return entry + 1;
+    let mut kept = frames;
+    while let Some((last, before)) = kept.split_last() {
+        if *last <= max_frame {
+            return kept.len();
         }
+        kept = before;
     }
     0
 }

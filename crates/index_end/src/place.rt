@@ -3,6 +3,7 @@ ghost use Rattle.std.specs.Prelude.{◌≡◌, ◌≤◌, length};
 ghost use Rattle.index_end.specs.Place.{started, placed, out_of_order};
 
 use crate::cells::IndexCells;
+use wal_types::settings::IndexSettings;
 use wal_types::{FRAME_INDEX_BLOCK_CAPACITY, Header};
 
 // The cells that the entry finds. Frame 1 with nothing published resets the index.
@@ -24,22 +25,17 @@ pub fn started_cells(header: Header, frame_id: u64) -> IndexCells
 // Where an entry goes: at the end of the index of the cells given, whose blocks may have grown; or nowhere. grow is the
 // file's answer to a growth by one block.
 #[tactic(auto, unfolding(crate::specs::Place::placed))]
-pub fn place_entry(
-    capacity: u32,
-    max_blocks: u32,
-    cells: IndexCells,
-    grow: bool,
-) -> Option<IndexCells>
-    requires { (cells.frame_index_blocks ≤ max_blocks) × (max_blocks ≤ 16) }
-    ensures { result ≡ placed capacity max_blocks grow cells }
+pub fn place_entry(settings: IndexSettings, cells: IndexCells, grow: bool) -> Option<IndexCells>
+    requires { (cells.frame_index_blocks ≤ settings.max_blocks) × (settings.max_blocks ≤ 16) }
+    ensures { result ≡ placed settings.capacity settings.max_blocks grow cells }
 {
-    if capacity <= cells.frame_index_len {
+    if settings.capacity <= cells.frame_index_len {
         return None;
     }
     if cells.frame_index_len < FRAME_INDEX_BLOCK_CAPACITY * cells.frame_index_blocks {
         return Some(cells);
     }
-    if max_blocks <= cells.frame_index_blocks || !grow {
+    if settings.max_blocks <= cells.frame_index_blocks || !grow {
         return None;
     }
     Some(IndexCells {
@@ -48,10 +44,9 @@ pub fn place_entry(
     })
 }
 
-// Whether the frame is not above the last of the entries.
-pub fn is_out_of_order(frames: &[u64], len: usize, frame_id: u64) -> bool
-    requires { len ≤ length frames.now }
-    ensures { result ≡ out_of_order frame_id len frames.now }
+// Whether the frame is not above the last one of the entries with these frames.
+pub fn is_out_of_order(frames: &[u64], frame_id: u64) -> bool
+    ensures { result ≡ out_of_order frame_id (length frames.now) frames.now }
 {
-    0 < len && frame_id <= frames[len - 1]
+    frames.last().is_some_and(|last| frame_id <= *last)
 }

@@ -7,7 +7,9 @@ use native.Mathlib.Omega.{arith}
 use lib.ListN.{length, take, drop, set, get_or, length-append, length-take, length-drop}
 use lib.Seq.{take_at, drop_at, get_or-take, get_or-drop, length-take-le, take-take, drop-drop}
 use borrow.Rule.Slice.PartMut.{put_mid, set_mid_at}
-use Rattle.index_find.specs.Index.{block_cells_of, block_pages_of, with_block}
+use Rattle.index_hash.specs.Block.{built}
+use Rattle.index_hash.proofs.Built.{built_front}
+use Rattle.index_find.specs.Index.{block_of, place_of, block_cells_of, block_pages_of, with_block}
 use Rattle.index_find.specs.Find.{visible_pages_of}
 
 -- the whole blocks of a hash, each at its place
@@ -36,15 +38,21 @@ pub block_page : (k : ℕ) (ps : List ℕ) (i : ℕ) → i < 4096 → get_or (bl
 unfolding block_pages_of
 block_page k ps i l = get_or-take {A = ℕ} 4096 (drop (4096 * k) ps) i 0 l ∙ get_or-drop {A = ℕ} (4096 * k) ps i 0
 
+-- a table built from the pages of the last block's first entries alone, where there are n entries
+pub built_part : (n : ℕ) (ps : List ℕ) → n ≤ length ps
+    → built (take (n - 4096 * block_of n) (drop (4096 * block_of n) ps)) (length (take (n - 4096 * block_of n) (drop (4096 * block_of n) ps))) ≡ built (block_pages_of (block_of n) ps) (place_of n)
+unfolding block_pages_of
+built_part n ps l =
+    let part : n - 4096 * block_of n ≡ place_of n = omega arith in
+    let all : length (take (place_of n) (drop (4096 * block_of n) ps)) ≡ place_of n = simp (length-take, length-drop) (omega arith) in
+    let tail = drop (4096 * block_of n) ps in
+    rw (part, all) (built_front tail (place_of n) (place_of n) (omega arith) ∙ sym (built_front tail 4096 (place_of n) (omega arith)))
+
 module _ (k : ℕ) (h : List ℕ) where
   -- the part that is lent of block k
   pub mid_cells : take (8192 * k + 8192 - 8192 * k) (drop (8192 * k) h) ≡ block_cells_of k h
   unfolding block_cells_of
   mid_cells = let e : 8192 * k + 8192 - 8192 * k ≡ 8192 = omega arith in rw e
-
-  pub mid_pages : take (4096 * k + 4096 - 4096 * k) (drop (4096 * k) h) ≡ block_pages_of k h
-  unfolding block_pages_of
-  mid_pages = let e : 4096 * k + 4096 - 4096 * k ≡ 4096 = omega arith in rw e
 
   -- and the whole when it is back
   pub put_block : (cells : List ℕ) → put_mid (8192 * k) (8192 * k + 8192 - 8192 * k) h cells ≡ with_block k cells h
@@ -52,10 +60,6 @@ module _ (k : ℕ) (h : List ℕ) where
   put_block cells = let e : 8192 * k + 8192 - 8192 * k ≡ 8192 = omega arith in rw e
 
   module _ (fits : 8192 * k + 8192 ≤ length h) where
-    pub length_block : length (block_cells_of k h) ≡ 8192
-    unfolding block_cells_of
-    length_block = simp (length-take, length-drop) (omega arith)
-
     pub length_with : (cells : List ℕ) → length cells ≡ 8192 → length (with_block k cells h) ≡ length h
     unfolding with_block
     length_with cells e = simp (length-append, length-take, length-drop, e) (omega arith)

@@ -88,12 +88,16 @@ unfoldable pub insert_entries : ℕ → ℕ → Piece
 insert_entries zero n m = []
 insert_entries (suc left) n m = (insert_entry n (get_or m.pages n 0) then insert_entries left (n + 1)) m
 
+-- the lent hash has block k
+abbrev pub HasBlock : ℕ → ℕ → Type 0
+HasBlock k hash = cells_for k + block_cells ≤ hash
+
 -- the lent parts have a place for entry n, and its block's hash
 pub record HasRoom (n pages frames hash : ℕ) : Type 0 where
   pub below_most : n < 65536
   pub page_room : n < pages
   pub frame_room : n < frames
-  pub hash_room : cells_for (block_of n) + block_cells ≤ hash
+  pub hash_room : HasBlock (block_of n) hash
 
 -- a memory with this header and index in it
 abbrev pub index_in : Memory → Header → List ℕ → List ℕ → List ℕ → Memory

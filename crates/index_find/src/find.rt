@@ -13,18 +13,18 @@ use index_search::probe;
 use index_search::probe::Probed;
 use wal_types::Header;
 use wal_types::refusal::Refusal;
+use wal_types::settings::IndexSettings;
 
 // The last place in a block.
 const LAST_PLACE: usize = BLOCK_ENTRIES - 1;
 
-// How many entries a reader with this upper bound sees: the source's binary search, as it is written. The library's
-// partition_point says nothing of frames that do not rise, and here the contract does.
-pub fn visible_frame_index_slots(frames: &[u64], len: usize, max_frame: u64) -> usize
-    requires { len ≤ length frames.now }
-    ensures { (result ≡ visible frames.now len max_frame) × (result ≤ len) }
+// How many of the entries with these frames a reader with this upper bound sees: the source's binary search, as it is
+// written. The library's partition_point says nothing of frames that do not rise, and here the contract does.
+pub fn visible_frame_index_slots(frames: &[u64], max_frame: u64) -> usize
+    ensures { (result ≡ visible frames.now (length frames.now) max_frame) × (result ≤ length frames.now) }
 {
     let mut low = 0;
-    let mut high = len;
+    let mut high = frames.len();
     while low < high {
         let mid = low + (high - low) / 2;
         if frames[mid] <= max_frame {
@@ -44,7 +44,7 @@ pub struct Looked {
 }
 
 // What the near cells of the blocks tell: the answer; or that the first so many blocks are left, of which the last has further
-// cells, and how many cells were looked at before.
+// cells, and how many cells were looked at before. (Break and Continue of a ControlFlow would say less than these names.)
 #[derive(Clone, Copy)]
 pub enum NearBlocks {
     Ended(Looked),
@@ -74,7 +74,8 @@ impl Lookup<'_> {
         (self.visible_slots + LAST_PLACE) / BLOCK_ENTRIES
     }
 
-    // The pages of block k's entries among the visible ones.
+    // The pages of block k's entries among the visible ones. (That k is one of the blocks stands in these contracts: a type of
+    // such numbers would ask its maker for the same.)
     fn visible_pages(&self, k: usize) -> &[u64]
         requires { k < blocks_for self.now.visible_slots }
         ensures { result.now ≡ visible_pages_of k self.now.visible_slots self.now.pages.now }
@@ -121,6 +122,7 @@ impl Lookup<'_> {
         ensures { (result.found ≡ found_in self.now blocks) × (result.cells ≡ cells_in self.now blocks) }
     {
         let mut cells = 0;
+        // No chain: a block's cells count, whatever it has, and of a closure that counts a proof is told nothing.
         for k in (0..blocks).rev() {
             let probed = self.probe_block(k);
             cells += probed.cells as u32;
@@ -143,6 +145,7 @@ impl Lookup<'_> {
             return NearBlocks::Left(blocks, 0);
         }
         let mut cells = 0;
+        // No chain, as above.
         for k in (0..blocks).rev() {
             let Some(ended) = self.probe_near_in_block(k, from) else {
                 return NearBlocks::Left(k + 1, cells);
@@ -185,10 +188,11 @@ fn bounds(min_frame: u64, max_frame: u64, frame_watermark: Option<u64>) -> (u64,
     }
 }
 
-// Looks up the latest frame of the page within the bounds, and counts the hash cells that it looks at. Nothing changes.
+// Looks up the latest frame of the page within the bounds, and counts the hash cells that it looks at. Nothing changes. (Here
+// and in the other calls the lent cells, the page and the bounds are parameters, as in the source: each call is lent others of
+// the cells, to read or to write, and only what a search goes through stands in a struct.)
 pub fn find_frame(
-    capacity: u32,
-    max_blocks: u32,
+    settings: IndexSettings,
     header: Header,
     pages: &[u64],
     frames: &[u64],
@@ -198,16 +202,9 @@ pub fn find_frame(
     max_frame: u64,
     frame_watermark: Option<u64>,
 ) -> Result<Looked, Refusal>
-    ensures { IndexCall (find_frame capacity max_blocks page_id min_frame max_frame frame_watermark) header pages.now frames.now hash.now (found_answer result) header pages.now frames.now hash.now × IndexNumber (find_looked capacity max_blocks page_id min_frame max_frame frame_watermark) header pages.now frames.now hash.now (cells_told result) }
+    ensures { IndexCall (find_frame settings.capacity settings.max_blocks page_id min_frame max_frame frame_watermark) header pages.now frames.now hash.now (found_answer result) header pages.now frames.now hash.now × IndexNumber (find_looked settings.capacity settings.max_blocks page_id min_frame max_frame frame_watermark) header pages.now frames.now hash.now (cells_told result) }
 {
-    index::check_index(
-        capacity,
-        max_blocks,
-        header,
-        pages.len(),
-        frames.len(),
-        hash.len(),
-    )?;
+    index::check_index(settings, header, pages, frames, hash)?;
     let (lower, upper) = bounds(min_frame, max_frame, frame_watermark);
     if upper < min_frame {
         return Ok(Looked {
@@ -216,7 +213,7 @@ pub fn find_frame(
         });
     }
     let len = header.frame_index_len as usize;
-    let visible_slots = visible_frame_index_slots(frames, len, upper);
+    let visible_slots = visible_frame_index_slots(&frames[..len], upper);
     let lookup = Lookup {
         pages,
         frames,

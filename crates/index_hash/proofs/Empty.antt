@@ -60,10 +60,6 @@ module _ (h : List ℕ) (page : ℕ) where
   pub found_below : (c : ℕ) → empty_cell h page ≡ Some c → c < 8192
   found_below c e = let f = found_first c e in let b = cell_at_below page f.steps in omega arith
 
-  -- and is empty
-  pub found_empty : (c : ℕ) → empty_cell h page ≡ Some c → get_or h c 0 ≡ 0
-  found_empty c e = (found_first c e).empty
-
 -- insert, by the cell that is found
 pub inserted_at : (h : List ℕ) (place page c : ℕ) → empty_cell h page ≡ Some c → inserted h place page ≡ set h c (place + 1)
 unfolding inserted

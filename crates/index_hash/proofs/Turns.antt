@@ -1,15 +1,17 @@
 -- One turn of the search for an empty cell, of the probe and of its count. Assumes nothing.
-use mathlib.Core.Path.{◌≡◌, ap}
+use mathlib.Core.Path.{◌≡◌, refl, sym, ◌∙◌}
 use mathlib.Core.Bool.{cond}
-use mathlib.Core.List.{List}
-use Prim.Native.Nat.{ℕ, suc, ◌+◌, ◌-◌, ◌<◌, ◌≤◌}
+use mathlib.Core.List.{List, map}
+use Prim.Native.Nat.{ℕ, zero, suc, ◌+◌, ◌-◌, ◌%◌, ◌<◌, ◌≤◌}
 use native.Mathlib.Omega.{arith}
 use lib.Dec.{eqb}
 use lib.ListN.{get_or}
 use borrow.Author.Tests.{eq-eqb, ne_eqb, lt-ltb, le-ltb}
-use Rattle.std.specs.Prelude.{Option, Some, None}
-use Rattle.index_hash.specs.Home.{home, next_cell}
-use Rattle.index_hash.specs.Block.{empty_from, probe_from, probe, looked_from}
+use Rattle.std.specs.Prelude.{Option, Some, None, option_map, find}
+use Rattle.std.specs.List.{range_with_len}
+use Rattle.std.proofs.lemmas.Iterator.Adapters.{option_map_id}
+use Rattle.index_hash.specs.Home.{next_cell}
+use Rattle.index_hash.specs.Block.{empty_from, probe_from, looked_from}
 
 -- the search for an empty cell, with n cells left
 module _ (n : ℕ) (h : List ℕ) (cell : ℕ) (whole : Option ℕ) (so_far : empty_from n h cell ≡ whole) where
@@ -28,18 +30,23 @@ module _ (n : ℕ) (h : List ℕ) (cell : ℕ) (whole : Option ℕ) (so_far : em
   unfolding empty_from
   at_empty l z = let more : n ≡ suc (n - 1) = omega arith in simp (more, eq-eqb _ _ z) at so_far
 
--- the probe starts at the page's home, with nothing met
-pub probe_start : (h pages : List ℕ) (page visible cell : ℕ) → cell ≡ home page → probe_from 8192 h pages page visible cell None ≡ probe h pages page visible
-unfolding probe
-probe_start h pages page visible cell e = ap (λ (x : ℕ). probe_from 8192 h pages page visible x None) e
+-- the search as a chain over the steps from a cell on
+module _ (h : List ℕ) (from : ℕ) where
+  at_steps : (n a : ℕ) → find (λ (cell : ℕ). eqb (get_or h (cell % 8192) 0) 0) (map (λ (step : ℕ). (from + step % 8192) % 8192) (range_with_len a n)) ≡ empty_from n h ((from + a % 8192) % 8192)
+  unfolding empty_from next_cell
+  at_steps zero a = refl
+  at_steps (suc n) a =
+      let here : (from + a % 8192) % 8192 % 8192 ≡ (from + a % 8192) % 8192 = omega arith in
+      let next : ((from + a % 8192) % 8192 + 1) % 8192 ≡ (from + (a + 1) % 8192) % 8192 = omega arith in
+      rw (here, next, at_steps n (a + 1))
+
+  pub found_by_find : (n : ℕ) → from < 8192 → (r : Option ℕ) → option_map (λ x. x) r ≡ find (λ (cell : ℕ). eqb (get_or h (cell % 8192) 0) 0) (map (λ (step : ℕ). (from + step % 8192) % 8192) (range_with_len 0 n)) → r ≡ empty_from n h from
+  found_by_find n b r e =
+      let start : (from + 0 % 8192) % 8192 ≡ from = omega arith in
+      sym (option_map_id r) ∙ e ∙ rw start at (at_steps n 0)
 
 -- the probe, with n cells left
 module _ (n : ℕ) (h pages : List ℕ) (page visible cell : ℕ) (latest whole : Option ℕ) (so_far : probe_from n h pages page visible cell latest ≡ whole) where
-  -- no cell is left
-  pub probe_none_left : n ≡ 0 → latest ≡ whole
-  unfolding probe_from
-  probe_none_left s = rw s at so_far
-
   -- an empty cell ends it
   pub probe_at_empty : 0 < n → get_or h cell 0 ≡ 0 → latest ≡ whole
   unfolding probe_from

@@ -83,6 +83,10 @@ not_all_used pages n page l all =
 pub never_full : (pages : List ℕ) (n page : ℕ) → n < 8192 → empty_cell (built pages n) page ≡ None → ⊥
 never_full pages n page l e = not_all_used pages n page l (subst (Found (built pages n) page) e (search_found (built pages n) page))
 
+-- of a table that equals such a block
+pub room_left : (pages h : List ℕ) (n page : ℕ) → h ≡ built pages n → n < 8192 → empty_cell h page ≡ None → ⊥
+room_left pages h n page e l f = never_full pages n page l (rw e at f)
+
 -- the same, with the cell
 pub has_room : (pages : List ℕ) (n page : ℕ) → n < 8192 → (c : ℕ) × (empty_cell (built pages n) page ≡ Some c)
 has_room pages n page l = go (empty_cell (built pages n) page) refl

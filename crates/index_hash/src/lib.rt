@@ -1,5 +1,6 @@
-// One block's hash table: open addressing with linear probing over the block's 8,192 cells. A cell holds a place in the block + 1, or 0 for empty. Here is what is done cell by cell;
-// `index_search` looks at many cells at once, and `index_rebuild` builds a table anew.
+// One block's hash table: open addressing with linear probing over the block's 8,192 cells. A cell holds the place of
+// an entry in the block + 1, or 0 where it is empty. This crate goes cell by cell; `index_search` looks at many cells
+// at once, and `index_rebuild` builds a table anew.
 #![tactic(auto)]
 
 ghost use Rattle.std.specs.Prelude.{◌≡◌, ◌+◌, ◌*◌, ◌%◌, ◌<◌, ◌≤◌, length, set};
@@ -25,7 +26,6 @@ pub fn hash_page_id(page_id: u64) -> usize
 
 // Every cell empty. (A slice, with its length in the contract: of a part of a slice that is lent as `&mut [u16; N]` the
 // lender's proof is not told what it becomes.)
-#[tactic(auto, unfolding(crate::specs::Block::cleared))]
 pub fn clear_frame_index_block_hash(hash: &mut [u16])
     requires { length hash.old ≡ block_cells }
     ensures { hash.new ≡ cleared }
@@ -33,22 +33,19 @@ pub fn clear_frame_index_block_hash(hash: &mut [u16])
     hash.fill(0);
 }
 
-// The first empty one of so many cells from this one on, if there is one. (A for: of a chain with find the check leaves the
-// goal open.)
+// The first empty one of so many cells from this one on, if there is one. (The second remainder changes nothing: the
+// closure is not told that the cell is one of the block's.)
 pub fn empty_from(hash: &[u16; BLOCK_CELLS], from: usize, cells: usize) -> Option<usize>
     requires { from < block_cells }
     ensures { result ≡ empty_from cells hash.now from }
 {
-    for step in 0..cells {
-        let cell = (from + step % BLOCK_CELLS) % BLOCK_CELLS;
-        if hash[cell] == 0 {
-            return Some(cell);
-        }
-    }
-    None
+    (0..cells)
+        .map(|step| (from + step % BLOCK_CELLS) % BLOCK_CELLS)
+        .find(|&cell| hash[cell % BLOCK_CELLS] == 0)
 }
 
-// The cell names the entry at this place of the block.
+// The cell names the entry at this place of the block. (The bounds of a cell and of a place stand in contracts, here and above:
+// a type of such numbers would ask its maker for the same.)
 pub fn name_entry(hash: &mut [u16], cell: usize, local_index: usize)
     requires { (cell < length hash.old) × (local_index < block_entries) }
     ensures { hash.new ≡ set hash.old cell (local_index + 1) }

@@ -7,122 +7,112 @@ use native.Mathlib.Nat.{pow-suc}
 use native.Mathlib.Decide.{ℕ_discrete, dec_lt}
 use native.Mathlib.Omega.{arith}
 use lib.Dec.{eqb}
-use lib.ListN.{length, get_or, set, replicate, length-set, get_or-replicate}
+use lib.ListN.{length, get_or, set, replicate, get_or-replicate}
 use lib.Pow.{pow_pos, shr-shr}
 use lib.Seq.{get_or-set_same, get_or-set_other}
 use borrow.Author.Tests.{eqb-true, eq-eqb, ne_eqb}
 use Rattle.std.specs.Prelude.{Some}
 use Rattle.wal_types.specs.Memory.{bit_at}
 use Rattle.word_bits.specs.Bit.{clear_bit}
-use Rattle.word_bits.proofs.Bits.{clear_other, clear_le}
+use Rattle.std.proofs.lemmas.List.{get_or_past}
+use Rattle.word_bits.proofs.Bits.{zero_bits, clear_other, clear_le}
 use Rattle.index_hash.specs.Home.{home}
 use Rattle.index_hash.specs.Block.{empty_from, empty_cell}
 use Rattle.index_hash.proofs.Empty.{by_test, set_cell}
 use Rattle.index_hash.proofs.Home.{home_below}
 use Rattle.index_search.specs.InnerRun.{Used}
 use Rattle.index_search.proofs.Passed.{found_on, found_round}
-use Rattle.index_rebuild.specs.InnerMap.{Clear, ClearWord, ClearCell, Way, WordsTell, Tells, without_word, without_cell}
+use Rattle.index_rebuild.specs.InnerMap.{Clear, Way, WordsTell, Tells, without_bit, words_left}
 use Rattle.index_rebuild.proofs.Ways.{way_map}
 
+-- another bit of the row (behind its end every bit is 0)
+kept : (row : List ℕ) (i k : ℕ) → (k ≡ i → ⊥) → Clear (without_bit row i) k → Clear row k
+unfolding without_bit
+kept row i k other clear = go (ℕ_discrete (k / 64) (i / 64)) (dec_lt (i / 64) (length row))
+  where
+    v : ℕ
+    v = clear_bit (get_or row (i / 64) 0) (i % 64)
+
+    go : Dec (k / 64 ≡ i / 64) → Dec (i / 64 < length row) → Clear row k
+    go (yes e) (yes b) =
+        let c = rw (e, get_or-set_same row (i / 64) v 0 b) at clear in
+        rw e (sym (clear_other (i % 64) (k % 64) (get_or row (i / 64) 0) (λ q. other (omega arith))) ∙ c)
+    go (yes e) (no b) = rw (e, get_or_past row (i / 64) 0 (omega arith)) (zero_bits (k % 64))
+    go (no e) d = rw (get_or-set_other row (i / 64) (k / 64) v 0 e) at clear
+
+-- a word with a bit less that was 0 is 0
+less_zero : (row : List ℕ) (i w : ℕ) → i / 64 < length row → get_or row w 0 ≡ 0 → get_or (without_bit row i) w 0 ≡ 0
+unfolding without_bit
+less_zero row i w b z = go (ℕ_discrete w (i / 64))
+  where
+    v : ℕ
+    v = clear_bit (get_or row (i / 64) 0) (i % 64)
+
+    go : Dec (w ≡ i / 64) → get_or (set row (i / 64) v) w 0 ≡ 0
+    go (yes e) =
+        let less = clear_le (get_or row (i / 64) 0) (i % 64) in
+        let none : get_or row (i / 64) 0 ≡ 0 = rw e at z in
+        rw (e, get_or-set_same row (i / 64) v 0 b) (omega arith)
+    go (no e) = get_or-set_other row (i / 64) w v 0 e ∙ z
+
+-- the code's stores: a word with a bit cleared
+pub bit_stored : (row : List ℕ) (i v : ℕ) → v ≡ clear_bit (get_or row (i / 64) 0) (i % 64) → set row (i / 64) v ≡ without_bit row i
+unfolding without_bit
+bit_stored row i v e = rw (← e)
+
+-- and, where that word is 0, its own bit
+pub word_cleared : (cells words : List ℕ) (w v u : ℕ) → w < length cells → v ≡ 0 → u ≡ clear_bit (get_or words (w / 64) 0) (w % 64) → set words (w / 64) u ≡ words_left (set cells w v) words w
+unfolding words_left without_bit
+word_cleared cells words w v u b z e = rw (get_or-set_same cells w v 0 b, eq-eqb v 0 z, ← e)
+
+pub word_left : (cells words : List ℕ) (w v : ℕ) → w < length cells → (v ≡ 0 → ⊥) → words ≡ words_left (set cells w v) words w
+unfolding words_left
+word_left cells words w v b n = rw (get_or-set_same cells w v 0 b, ne_eqb v 0 n)
+
+-- the words still tell once a cell's bit is cleared
+pub words_told : (cells words cells' words' : List ℕ) (c : ℕ) → length cells ≡ 128 → c < 8192 → cells' ≡ without_bit cells c → words' ≡ words_left cells' words (c / 64) → WordsTell cells words
+    → WordsTell cells' words'
+unfolding words_left
+words_told cells words cells' words' c l b e f tell =
+    rw (f, e) (by_test (WordsTell (without_bit cells c)) (eqb (get_or (without_bit cells c) (c / 64) 0) 0) (λ t. cleared (eqb-true _ _ t)) (λ t. still))
+  where
+    still : WordsTell (without_bit cells c) words
+    still w u clear = less_zero cells c w (omega arith) (tell w u clear)
+
+    cleared : get_or (without_bit cells c) (c / 64) 0 ≡ 0 → WordsTell (without_bit cells c) (without_bit words (c / 64))
+    cleared z w u clear = go (ℕ_discrete w (c / 64))
+      where
+        go : Dec (w ≡ c / 64) → get_or (without_bit cells c) w 0 ≡ 0
+        go (yes e) = rw e z
+        go (no e) = still w u (kept words (c / 64) w e clear)
+
 module _ (h : List ℕ) where
-  -- a word that is 0 is dropped
-  word_dropped : (m : List ℕ) (w : ℕ) → length m ≡ 130 → w < 128 → get_or m w 0 ≡ 0 → Tells h m → Tells h (without_word m w)
-  unfolding without_word
-  word_dropped m w l b z tells = record { words = words; cells = λ c u clear. tells.cells c u (rw (get_or-set_other m (128 + w / 64) (c / 64) _ 0 (λ e. absurd (omega arith))) at clear) }
-    where
-      v : ℕ
-      v = clear_bit (get_or m (128 + w / 64) 0) (w % 64)
-
-      -- the bit of another word, in the word i of the map
-      kept : (i x : ℕ) → i < 130 → (x ≡ w % 64 → i ≡ 128 + w / 64 → ⊥) → Clear (get_or (set m (128 + w / 64) v) i 0) x → Clear (get_or m i 0) x
-      kept i x s other clear = go (ℕ_discrete i (128 + w / 64))
-        where
-          go : Dec (i ≡ 128 + w / 64) → Clear (get_or m i 0) x
-          go (yes e) =
-              let same = get_or-set_same m (128 + w / 64) v 0 (omega arith) in
-              let c = rw (e, same) at clear in
-              rw e (sym (clear_other (w % 64) x (get_or m (128 + w / 64) 0) (λ q. other q e)) ∙ c)
-          go (no e) = rw (get_or-set_other m (128 + w / 64) i v 0 e) at clear
-
-      words : WordsTell (set m (128 + w / 64) v)
-      words x u clear = get_or-set_other m (128 + w / 64) x v 0 (λ e. absurd (omega arith)) ∙ go (ℕ_discrete x w)
-        where
-          go : Dec (x ≡ w) → get_or m x 0 ≡ 0
-          go (yes e) = rw e z
-          go (no e) =
-              tells.words x u
-              (λ s. kept 128 x (omega arith) (λ q r. e (omega arith)) (clear.0 s), λ s. kept 129 (x - 64) (omega arith) (λ q r. e (omega arith)) (clear.1 s))
-
-  -- the bit of a used cell is cleared
-  bit_cleared : (m : List ℕ) (c : ℕ) → length m ≡ 130 → c < 8192 → Used h c → Tells h m → Tells h (set m (c / 64) (clear_bit (get_or m (c / 64) 0) (c % 64)))
-  bit_cleared m c l b used tells = record { words = words; cells = cells }
-    where
-      v : ℕ
-      v = clear_bit (get_or m (c / 64) 0) (c % 64)
-
-      words : WordsTell (set m (c / 64) v)
-      words w u clear =
-          let low = get_or-set_other m (c / 64) 128 v 0 (λ e. absurd (omega arith)) in
-          let high = get_or-set_other m (c / 64) 129 v 0 (λ e. absurd (omega arith)) in
-          let old = tells.words w u (rw (low, high) at clear) in
-          go old (ℕ_discrete w (c / 64))
-        where
-          go : get_or m w 0 ≡ 0 → Dec (w ≡ c / 64) → get_or (set m (c / 64) v) w 0 ≡ 0
-          go old (yes e) =
-              let less = clear_le (get_or m (c / 64) 0) (c % 64) in
-              let none : get_or m (c / 64) 0 ≡ 0 = rw e at old in
-              rw (e, get_or-set_same m (c / 64) v 0 (omega arith)) (omega arith)
-          go old (no e) = get_or-set_other m (c / 64) w v 0 e ∙ old
-
-      cells : (k : ℕ) → k < 8192 → ClearCell (set m (c / 64) v) k → Used h k
-      cells k u clear = go (ℕ_discrete k c) (ℕ_discrete (k / 64) (c / 64))
-        where
-          go : Dec (k ≡ c) → Dec (k / 64 ≡ c / 64) → Used h k
-          go (yes e) d = rw e used
-          go (no e) (yes d) =
-              let same = get_or-set_same m (c / 64) v 0 (omega arith) in
-              let now = rw (d, same) at clear in
-              tells.cells k u (rw d (sym (clear_other (c % 64) (k % 64) (get_or m (c / 64) 0) (λ q. e (omega arith))) ∙ now))
-          go (no e) (no d) = tells.cells k u (rw (get_or-set_other m (c / 64) (k / 64) v 0 d) at clear)
-
   -- a used cell is dropped
-  pub cell_dropped : (m : List ℕ) (c : ℕ) → length m ≡ 130 → c < 8192 → Used h c → Tells h m → Tells h (without_cell m c)
-  unfolding without_cell
-  cell_dropped m c l b used tells =
-      by_test (Tells h) (eqb (clear_bit (get_or m (c / 64) 0) (c % 64)) 0)
-      (λ t. word_dropped _ (c / 64) (simp length-set (l)) (omega arith) (get_or-set_same m (c / 64) _ 0 (omega arith) ∙ eqb-true _ _ t) (bit_cleared m c l b used tells))
-      (λ t. bit_cleared m c l b used tells)
+  pub cell_dropped : (cells : List ℕ) (c : ℕ) → Used h c → Tells h cells → Tells h (without_bit cells c)
+  cell_dropped cells c used tells k u clear = go (ℕ_discrete k c)
+    where
+      go : Dec (k ≡ c) → Used h k
+      go (yes e) = rw e used
+      go (no e) = tells k u (kept cells c k e clear)
 
   -- the first empty cell is the page's
-  pub found_way : (m : List ℕ) (page from c : ℕ) → from ≡ home page → Tells h m → c < 8192 → Way (ClearCell m) 8192 from c → get_or h c 0 ≡ 0 → Some c ≡ empty_cell h page
+  pub found_way : (cells : List ℕ) (page from c : ℕ) → from ≡ home page → Tells h cells → c < 8192 → Way (Clear cells) 8192 from c → get_or h c 0 ≡ 0 → Some c ≡ empty_cell h page
   unfolding empty_cell
-  found_way m page from c e tells b way z = rw (sym e) (go (dec_lt c from))
+  found_way cells page from c e tells b way z = rw (sym e) (go (dec_lt c from))
     where
       below : from < 8192
       below = let l = home_below page in omega arith
 
       used : Way (Used h) 8192 from c
-      used = way_map (ClearCell m) (Used h) 8192 from c (omega arith) tells.cells way
+      used = way_map (Clear cells) (Used h) 8192 from c (omega arith) tells way
 
       go : Dec (c < from) → Some c ≡ empty_from 8192 h from
       go (yes s) = found_round h from below c s (used.1 s).0 (used.1 s).1 z
       go (no s) = found_on h from below c (omega arith) b (used.0 (omega arith)) z
 
 -- used cells stay used
-pub cell_filled : (h h' m : List ℕ) (c v : ℕ) → h' ≡ set h c (v + 1) → c < length h → Tells h m → Tells h' m
-cell_filled h h' m c v e b tells =
-    rw e (record { words = tells.words; cells = λ k u clear. set_cell (λ (x : ℕ). x ≡ 0 → ⊥) h c (v + 1) k b (λ q z. absurd (omega arith)) (λ q. tells.cells k u clear) })
-
--- the code's stores: the word of the cell with its bit cleared
-module _ (m : List ℕ) (c v : ℕ) (e : v ≡ clear_bit (get_or m (c / 64) 0) (c % 64)) where
-  pub cell_stored : (v ≡ 0 → ⊥) → set m (c / 64) v ≡ without_cell m c
-  unfolding without_cell
-  cell_stored n = rw (← e, ne_eqb v 0 n)
-
-  -- and the word of that word
-  pub word_stored : (u : ℕ) → v ≡ 0 → u ≡ clear_bit (get_or (set m (c / 64) v) (128 + c / 64 / 64) 0) (c / 64 % 64) → set (set m (c / 64) v) (128 + c / 64 / 64) u ≡ without_cell m c
-  unfolding without_cell without_word
-  word_stored u z f = rw (← e, eq-eqb v 0 z, ← f)
+pub cell_filled : (h h' cells : List ℕ) (c v : ℕ) → h' ≡ set h c (v + 1) → c < length h → Tells h cells → Tells h' cells
+cell_filled h h' cells c v e b tells = rw e (λ k u clear. set_cell (λ (x : ℕ). x ≡ 0 → ⊥) h c (v + 1) k b (λ q z. absurd (omega arith)) (λ q. tells k u clear))
 
 -- every bit of the greatest word is 1
 ones : (n j : ℕ) → j < n → bit_at (2 ^ n - 1) j ≡ 1
@@ -138,24 +128,13 @@ ones (suc n) (suc j) l =
     let o : 2 ^ 1 ≡ 2 = refl in
     ap (λ (x : ℕ). x % 2) (sym (rw (a, o, half) at s)) ∙ ones n j (omega arith)
 
--- at first nothing is known
-pub nothing_known : (h : List ℕ) → Tells h (replicate 130 (2 ^ 64 - 1))
-nothing_known h =
-    record {
-      words = λ w u clear. absurd (none w u clear);
-      cells = λ c u clear. let o = ones 64 (c % 64) (omega arith) in let z = rw (get_or-replicate 130 (c / 64) (2 ^ 64 - 1) 0 (omega arith)) at clear in absurd (omega arith);
-    }
-  where
-    none : (w : ℕ) → w < 128 → ClearWord (get_or (replicate 130 (2 ^ 64 - 1)) 128 0) (get_or (replicate 130 (2 ^ 64 - 1)) 129 0) w → ⊥
-    none w u clear = go (dec_lt w 64)
-      where
-        go : Dec (w < 64) → ⊥
-        go (yes s) = let o = ones 64 w s in let z = rw (get_or-replicate 130 128 (2 ^ 64 - 1) 0 (omega arith)) at (clear.0 s) in absurd (omega arith)
-        go (no s) = let o = ones 64 (w - 64) (omega arith) in let z = rw (get_or-replicate 130 129 (2 ^ 64 - 1) 0 (omega arith)) at (clear.1 (omega arith)) in absurd (omega arith)
+-- at first no bit of a row is 0
+pub none_clear : (n i : ℕ) → i / 64 < n → Clear (replicate n (2 ^ 64 - 1)) i → ⊥
+none_clear n i b clear = let o = ones 64 (i % 64) (omega arith) in let z = rw (get_or-replicate n (i / 64) (2 ^ 64 - 1) 0 b) at clear in omega arith
 
 -- an entry is named in a cell, which is then dropped
-pub entry_named : (h h' m : List ℕ) (c v : ℕ) → h' ≡ set h c (v + 1) → length h ≡ 8192 → length m ≡ 130 → c < 8192 → Tells h m → Tells h' (without_cell m c)
-entry_named h h' m c v e l n b tells = cell_dropped h' m c n b used (cell_filled h h' m c v e (omega arith) tells)
+pub entry_named : (h h' cells : List ℕ) (c v : ℕ) → h' ≡ set h c (v + 1) → length h ≡ 8192 → c < 8192 → Tells h cells → Tells h' (without_bit cells c)
+entry_named h h' cells c v e l b tells = cell_dropped h' cells c used (cell_filled h h' cells c v e (omega arith) tells)
   where
     used : Used h' c
     used z = let s = get_or-set_same h c (v + 1) 0 (omega arith) in let q = rw (e, s) at z in absurd (omega arith)

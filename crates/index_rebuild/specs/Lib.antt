@@ -1,2 +1,3 @@
 -- What a rebuild knows of the cells that are used.
 pub mod InnerMap
+pub mod InnerRebuild

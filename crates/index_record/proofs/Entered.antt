@@ -94,9 +94,9 @@ module _ (z : Memory) (h : Header) (ps fs hs : List ℕ) (n page frame : ℕ) (f
       (when_not (eqb (place_of n) 0) (clear_block k) (index_in z h ps fs hs) (ne_eqb _ _ first))
       (insert_applied z h (set ps n page) (set fs n frame) hs n page c fits e)
 
--- a block's hash, cleared and with an entry named in one of its cells
-pub first_hash : (k : ℕ) (hs hs1 hs2 : List ℕ) (cell v : ℕ) → 8192 * k + 8192 ≤ length hs → hs1 ≡ with_block k cleared hs → hs2 ≡ with_block k (set (block_cells_of k hs1) cell v) hs1 → hs2 ≡ with_block k (set cleared cell v) hs
-first_hash k hs hs1 hs2 cell v fits e f = f ∙ rw (e, block_of_with k hs fits cleared length_cleared) (with_with k hs fits cleared (set cleared cell v) length_cleared)
+-- a block's hash after it is cleared and an entry is named in one of its cells
+pub first_hash : (k cell v : ℕ) (hs hs1 : List ℕ) → 8192 * k + 8192 ≤ length hs → hs1 ≡ with_block k cleared hs → with_block k (set (block_cells_of k hs1) cell v) hs1 ≡ with_block k (set cleared cell v) hs
+first_hash k cell v hs hs1 fits e = rw (e, block_of_with k hs fits cleared length_cleared) (with_with k hs fits cleared (set cleared cell v) length_cleared)
 
 -- the first entry of a block goes to its page's home
 pub first_named : (page n : ℕ) → place_of n ≡ 0 → inserted cleared 0 page ≡ set cleared (home page) (place_of n + 1)

@@ -2,6 +2,5 @@
 pub mod Entered
 pub mod Recorded
 pub mod Placed
-pub mod Planned
 pub mod RolledBack
 pub mod Stored

@@ -1,4 +1,4 @@
 -- The calls that change the frame index.
 pub mod Record
-pub mod InnerPlan
+pub mod InnerEntered
 pub mod Rollback

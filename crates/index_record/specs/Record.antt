@@ -3,7 +3,6 @@ use Rattle.std.specs.Prelude.{Result, Ok, Err, Bool, is_none, not, ◌&&◌, con
 use Rattle.wal_types.specs.Memory.{Memory, to_header, frame_index_len_cell, frame_index_overflowed_cell, frame_index_blocks_cell, to_page, to_frame_cell}
 use Rattle.wal_types.specs.Store.{Piece, one, when, ◌then◌}
 use Rattle.wal_types.specs.Refusal.{Test, ◌if◌, number}
-use Rattle.wal_types.specs.declared.Header.{Header}
 use Rattle.wal_types.specs.declared.refusal.Refusal.{Refusal}
 use Rattle.wal_types.specs.declared.refusal.Refusal.TheVariants.{FrameOrder, HashFull}
 use Rattle.wal_types.specs.Call.{Call, Answer, refused, stored, dropped, does, unless}
@@ -11,8 +10,6 @@ use Rattle.index_hash.specs.Block.{empty_cell}
 use Rattle.index_record.specs.declared.record.Recorded.{Recorded}
 use Rattle.index_record.specs.declared.record.Recorded.TheVariants.{Stored, Dropped}
 use Rattle.index_find.specs.Index.{index_tests, block_of, place_of, block_cells_of, clear_block, insert_entry}
-use Rattle.index_end.specs.declared.cells.IndexCells.{IndexCells}
-use Rattle.index_end.specs.Cells.{cells_of}
 use Rattle.index_end.specs.Place.{resets, started, blocks_full, drops, out_of_order}
 
 -- no empty cell for entry n's page; the first entry of a block has its hash cleared
@@ -68,12 +65,6 @@ record_frame capacity b page frame grow =
 
 -- What each case of the result tells.
 abbrev pub record_answer : Result Recorded Refusal → Answer
-record_answer (Ok (Stored cells)) = stored
-record_answer (Ok (Dropped cells)) = dropped
+record_answer (Ok Stored) = stored
+record_answer (Ok Dropped) = dropped
 record_answer (Err r) = refused (number r)
-
--- The index's cells that the call leaves: a refused one leaves the header's own.
-abbrev pub record_left : Header → Result Recorded Refusal → IndexCells
-record_left h (Ok (Stored cells)) = cells
-record_left h (Ok (Dropped cells)) = cells
-record_left h (Err r) = cells_of h

@@ -1,14 +1,11 @@
 -- rollback_frames (document 01, "rollback_frames"). Assumes nothing.
 use Rattle.std.specs.Prelude.{Result, Ok, Err, not, ℕ, ◌-◌, eqb, ltb}
 use Rattle.wal_types.specs.Memory.{Memory, to_header, frame_index_len_cell}
-use Rattle.wal_types.specs.declared.Header.{Header}
 use Rattle.wal_types.specs.declared.refusal.Refusal.{Refusal}
 use Rattle.wal_types.specs.Refusal.{number}
 use Rattle.wal_types.specs.Store.{Piece, one, when, ◌then◌}
 use Rattle.wal_types.specs.Call.{Call, Answer, refused, kept, does, unless}
 use Rattle.index_find.specs.Index.{index_tests, block_of, place_of, clear_block, insert_entries}
-use Rattle.index_end.specs.declared.cells.IndexCells.{IndexCells}
-use Rattle.index_end.specs.Cells.{cells_of}
 use Rattle.index_end.specs.Kept.{kept_of}
 
 abbrev pub kept_len : ℕ → Memory → ℕ
@@ -28,11 +25,6 @@ rollback_frames capacity b bound =
     unless (λ m p. index_tests capacity b m) (λ m. does (kept (kept_len bound m)) (rollback_stores (kept_len bound m)) m)
 
 -- What each case of the result tells.
-abbrev pub rollback_answer : Result IndexCells Refusal → Answer
-rollback_answer (Ok cells) = kept cells.frame_index_len
+abbrev pub rollback_answer : Result ℕ Refusal → Answer
+rollback_answer (Ok n) = kept n
 rollback_answer (Err r) = refused (number r)
-
--- The index's cells that the call leaves: a refused one leaves the header's own.
-abbrev pub rollback_left : Header → Result IndexCells Refusal → IndexCells
-rollback_left h (Ok cells) = cells
-rollback_left h (Err r) = cells_of h

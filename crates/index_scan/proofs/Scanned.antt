@@ -1,9 +1,10 @@
--- A search is refused by the tests of a call that is lent no hash, or answers what is found among the entries; and a part of them passed over. Assumes nothing.
+-- A search is refused by the tests of a call that is lent no hash, or answers what is found among the entries; a part of them passed over; and the lists cut behind them. Assumes nothing.
 use mathlib.Core.Path.{◌≡◌, refl, sym, ◌∙◌, ap}
 use mathlib.Core.List.{List, []}
-use Prim.Native.Nat.{ℕ, zero, suc, ◌+◌}
+use Prim.Native.Nat.{ℕ, zero, suc, ◌+◌, ◌≤◌}
 use native.Mathlib.Omega.{arith}
-use lib.ListN.{length}
+use lib.ListN.{length, take}
+use lib.Seq.{get_or-take, length-take-le}
 use Rattle.wal_types.specs.declared.Header.{Header}
 use Rattle.wal_types.specs.Memory.{Memory, Process}
 use Rattle.wal_types.specs.Call.{Pair, refused, turned_away, accepted, does, accepted_or, done, after}
@@ -13,6 +14,7 @@ use Rattle.index_find.specs.Index.{entries_in, entries_refusal, EntriesCall}
 use Rattle.index_find.specs.Find.{lookup_answer}
 use Rattle.index_find.proofs.Refused.{entries_refused, entries_passed}
 use Rattle.index_grown.specs.Entries.{entries_of, entries}
+use Rattle.index_grown.proofs.Entries.{entries_agree}
 use Rattle.index_scan.specs.Scan.{scan}
 
 module _ (capacity b : ℕ) (found : List Pair → Option ℕ) (h : Header) (ps fs : List ℕ) where
@@ -41,3 +43,9 @@ along of_first P same from zero all = let e : from ≡ from + 0 = omega arith in
 along of_first P same from (suc k) all =
     let e : suc (from + k) ≡ from + suc k = omega arith in
     along of_first P same from k (λ i l u. all i l (omega arith)) ∙ (same (from + k) (all (from + k) (omega arith) (omega arith)) ∙ ap of_first e)
+
+-- the entries of the lists that end behind them
+pub entries_cut : (n : ℕ) (ps fs : List ℕ) → n ≤ length ps → entries_of (length (take n ps)) (take n ps) (take n fs) ≡ entries_of n ps fs
+entries_cut n ps fs b =
+    rw (length-take-le n ps b)
+    (entries_agree (take n ps) (take n fs) ps fs n (λ i r. get_or-take {A = ℕ} n ps i 0 r) (λ i r. get_or-take {A = ℕ} n fs i 0 r))

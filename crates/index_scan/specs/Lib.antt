@@ -3,3 +3,4 @@ pub mod Scan
 pub mod Between
 pub mod Nearest
 pub mod InnerScan
+pub mod InnerSearch

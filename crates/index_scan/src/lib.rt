@@ -5,4 +5,4 @@
 
 pub mod between;
 pub mod nearest;
-mod others;
+mod search;

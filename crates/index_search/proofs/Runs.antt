@@ -1,11 +1,20 @@
 -- Runs joined from parts, each seen by a test. Assumes nothing.
-use mathlib.Core.Path.{◌≡◌, refl, ap, ◌∙◌}
-use mathlib.Core.List.{List, []}
+use mathlib.Core.Path.{◌≡◌, refl, sym, subst, ap, ◌∙◌}
+use mathlib.Core.Bool.{Bool, true, false, false≢true, not, ◌&&◌}
+use mathlib.Core.List.{List, [], ◌∷◌, ◌++◌}
 use Prim.Native.Nat.{ℕ, zero, suc, ◌+◌, ◌-◌, ◌*◌, ◌<◌, ◌≤◌}
 use native.Mathlib.Decide.{dec_lt}
 use native.Mathlib.Omega.{arith}
+use lib.Dec.{eqb, leb}
 use lib.ListN.{length, get_or, take, drop}
-use lib.Seq.{get_or-take, get_or-drop, take-take}
+use Rattle.std.proofs.lemmas.Bool.{leb-true}
+use lib.Seq.{get_or-take, get_or-drop, take-take, get_or-append_seam, take-append_seam}
+use Rattle.std.specs.Prelude.{Option, Some}
+use Rattle.std.specs.List.{fold}
+use Rattle.std.specs.Iterator.{CallableAtEachTurn}
+use Rattle.std.proofs.lemmas.Fn.{serves_by}
+use Rattle.std.proofs.lemmas.Iterator.{YieldsList}
+use Rattle.std.proofs.lemmas.Iterator.Consumers.{YieldsList-turn}
 use Rattle.std.specs.Simd.{first_chunks}
 use Rattle.index_search.specs.InnerRun.{All, Live, Other}
 
@@ -24,6 +33,32 @@ all_join P from mid to a b c l u = go (dec_lt c mid)
 -- a part of it
 pub all_within : (P : ℕ → Type 0) (from to from' to' : ℕ) → from ≤ from' → to' ≤ to → All P from to → All P from' to'
 all_within P from to from' to' l u a c x y = a c (omega arith) (omega arith)
+
+both : (a b : Bool) → (a && b) ≡ true → (a ≡ true) × (b ≡ true)
+both true b e = (refl, e)
+both false b e = absurd (false≢true e)
+
+-- a fold that keeps whether all of a list pass a test
+module _ (test : ℕ → Bool) (P : ℕ → Type 0) (tells : (x : ℕ) → test x ≡ true → P x) where
+  before : (l : List ℕ) (all : Bool) → fold (λ a x. a && test x) all l ≡ true → all ≡ true
+  before [] all e = e
+  before (x ∷ l) all e = (both all _ (before l (all && test x) e)).0
+
+  pub fold_all : (l : List ℕ) (all : Bool) → fold (λ a x. a && test x) all l ≡ true → (i : ℕ) → i < length l → P (get_or l i 0)
+  fold_all [] all e i b = absurd (omega arith)
+  fold_all (x ∷ l) all e zero b = tells x (both all _ (before l (all && test x) e)).1
+  fold_all (x ∷ l) all e (suc i) b = fold_all l (all && test x) e i (omega arith)
+
+-- a cell that is seen to be live
+pub live_seen : (visible x : ℕ) → (not (eqb x 0) && leb x visible) ≡ true → (1 ≤ x) × (x ≤ visible)
+live_seen visible zero e = absurd (false≢true e)
+live_seen visible (suc x) e = let s = both (not (eqb (suc x) 0)) (leb (suc x) visible) e in (omega arith, leb-true (suc x) visible s.1)
+
+-- a fold may call its closure where the closure may be called at each of the list's items and changes nothing that it holds
+pub callable_in_fold : {S A B F T : Type 0} {steps : S → Option A → S → Type 0} {v : A → B} {s : S} {all : List B} → YieldsList steps v s all → {R : F × T → A → F × T → Type 0} {Q : F × T → A → Type 0} {f : F} {a : T}
+    → ((n : T) (x : A) (q : F × T) → R (f, n) x q → q.0 ≡ f) → ((n : T) (x : A) (k : ℕ) → k < length all → v x ≡ get_or all k (v x) → Q (f, n) x) → CallableAtEachTurn {P = F × T} steps R Q s (f, a)
+callable_in_fold {F = F} {T = T} {steps = steps} {s = s} road {R = R} {Q = Q} {f = f} {a = a} stays h = serves_by R (λ _ q. q.0 ≡ f) (λ xs q x w j r. stays q.1 x w (subst (λ (g : F). R (g, q.1) x w) j r)) steps Q s (f, a) refl
+    (λ xs t q x u y e j. let m = YieldsList-turn road xs t y (Some x) u x refl e in subst (λ (g : F). Q (g, q.1) x) (sym j) (h q.1 x (length xs) m.0 m.1))
 
 -- cell j of look n
 look_cell : (size m n j : ℕ) (xs : List ℕ) → n < m → j < size → get_or (get_or (first_chunks size m xs) n []) j 0 ≡ get_or xs (size * n + j) 0
@@ -58,6 +93,14 @@ part_live h visible from n p l live c x y =
 -- a cell of what is left of a run
 pub kept_cell : (rest run : List ℕ) (c : ℕ) → rest ≡ take (length rest) run → c < length rest → get_or rest c 0 ≡ get_or run c 0
 kept_cell rest run c e l = ap (λ (x : List ℕ). get_or x c 0) e ∙ get_or-take {A = ℕ} (length rest) run c 0 l
+
+-- the last cell of what is left of a run, and what is before it
+module _ (rest run front : List ℕ) (cell : ℕ) (kept : rest ≡ take (length rest) run) (parts : rest ≡ front ++ (cell ∷ [])) (size : length front + 1 ≡ length rest) where
+  pub last_cell : get_or run (length front) 0 ≡ cell
+  last_cell = sym (kept_cell rest run (length front) kept (omega arith)) ∙ ap (λ (x : List ℕ). get_or x (length front) 0) parts ∙ get_or-append_seam front cell [] 0
+
+  pub front_kept : front ≡ take (length front) run
+  front_kept = sym (take-append_seam front (cell ∷ [])) ∙ ap (take (length front)) (sym parts ∙ kept) ∙ take-take (length front) (length rest) run (omega arith)
 
 -- the last look of what is left of a run
 module _ (run rest before look : List ℕ) (kept : rest ≡ take (length rest) run) (within : length rest ≤ length run) (front : before ≡ take (length rest - 8) rest) (back : look ≡ drop (length rest - 8) rest) (size : length before + 8 ≡ length rest) where

@@ -34,11 +34,11 @@ fn ended(latest: usize, cells: usize) -> Option<Probed>
     Some(Probed { found, cells })
 }
 
-// The probe of the near cells from the page's home on, one by one: its answer, if it ends among them. The pages are those of the
-// visible entries; an entry that is not visible ends the probe.
+// The probe of the near cells from the page's home on, one by one: its answer, if it ends among them. The pages are
+// those of the visible entries; an entry that is not visible ends the probe.
 // (So with none visible any cell ends it, and the source's early return for that is not needed.)
-// What is met is kept as the cell's number, 0 for nothing: one register, where an Option takes two. Turns are counted, not cells:
-// so the compiler, which unrolls the loop, has a constant at each end of it.
+// What is met is kept as the cell's number, 0 for nothing: one register, where an Option takes two. Turns are counted,
+// not cells: so the compiler, which unrolls the loop, has a constant at each end of it.
 pub fn probe_near(
     hash: &[u16; BLOCK_CELLS],
     pages: &[u64],
@@ -70,14 +70,13 @@ fn name_others(cells: &[u16; LOOK], pages: &[u64], page_id: u64) -> bool
     requires { All (Live cells.now (length pages.now)) 0 8 }
     ensures { result ≡ true → All (Other cells.now pages.now page_id) 0 8 }
 {
-    let mut others = true;
-    for cell in cells {
-        others &= pages[*cell as usize - 1] != page_id;
-    }
-    others
+    cells.iter().fold(true, |others, cell| {
+        others & (pages[*cell as usize - 1] != page_id)
+    })
 }
 
-// What is left of a run once cells at its end that name other pages' entries are passed, as long as a look sees nothing else.
+// What is left of a run once cells at its end that name other pages' entries are passed, as long as a look sees nothing
+// else.
 fn before_others<'a>(run: &'a [u16], pages: &[u64], page_id: u64) -> &'a [u16]
     requires { All (Live run.now (length pages.now)) 0 (length run.now) }
     ensures { (length result.now ≤ length run.now) × ((result.now ≡ take (length result.now) run.now) × All (Other run.now pages.now page_id) (length result.now) (length run.now)) }
@@ -92,24 +91,25 @@ fn before_others<'a>(run: &'a [u16], pages: &[u64], page_id: u64) -> &'a [u16]
     rest
 }
 
-// The last entry of the page that a run of live cells names, or what was met before. Backward: on few pages the last cells of
-// a run are those of the page that is looked for.
+// The last entry of the page that a run of live cells names, or what was met before. Backward: on few pages the last
+// cells of a run are those of the page that is looked for.
 fn latest_in_run(run: &[u16], pages: &[u64], page_id: u64, before: Option<usize>) -> Option<usize>
     requires { All (Live run.now (length pages.now)) 0 (length run.now) }
     ensures { result ≡ met_in run.now pages.now page_id 0 (length run.now) before }
 {
-    let rest = before_others(run, pages, page_id);
-    for at in (0..rest.len()).rev() {
-        let local_index = rest[at] as usize - 1;
+    let mut rest = before_others(run, pages, page_id);
+    while let Some((&cell, front)) = rest.split_last() {
+        let local_index = cell as usize - 1;
         if pages[local_index] == page_id {
             return Some(local_index);
         }
+        rest = front;
     }
     before
 }
 
-// The place of the page's latest entry among the visible ones, many cells at a look: the run of live cells from the home
-// on, which may go on at the block's first cell. The pages are those of the visible entries.
+// The place of the page's latest entry among the visible ones, many cells at a look: the run of live cells from the
+// home on, which may go on at the block's first cell. The pages are those of the visible entries.
 pub fn find_frame_in_block(hash: &[u16; BLOCK_CELLS], pages: &[u64], page_id: u64) -> Probed
     requires { length pages.now ≤ block_entries }
     ensures { (result.found ≡ probe hash.now pages.now page_id (length pages.now)) × (result.cells ≡ looked hash.now page_id (length pages.now)) }

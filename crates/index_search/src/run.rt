@@ -18,16 +18,14 @@ fn is_live(cell: u16, visible: u16) -> bool
     (cell != 0) & (cell <= visible)
 }
 
-// Whether all cells of a look are live. Both sides of `&` are evaluated, so that the compiler looks at all of them by one
-// instruction.
+// Whether all cells of a look are live. Both sides of `&` are evaluated, so that the compiler looks at all of them by
+// one instruction: `all` would stop at the first that is not.
 fn all_live(cells: &[u16; LOOK], visible: u16) -> bool
     ensures { result ≡ true → All (Live cells.now visible) 0 16 }
 {
-    let mut live = true;
-    for cell in cells {
-        live &= is_live(*cell, visible);
-    }
-    live
+    cells
+        .iter()
+        .fold(true, |live, cell| live & is_live(*cell, visible))
 }
 
 // How many cells at the front of these are live, by whole looks.
@@ -44,6 +42,9 @@ fn pass_live(cells: &[u16], visible: u16) -> usize
 }
 
 // Where the run of live cells from this one on ends, cell by cell: at the first that is not live, or at the given end.
+// (A for over their numbers: with `position` a record took 7 to 8 % longer. No Option: a run that goes to the end has
+// its end there, and a probe takes the cells up to it in either case. That the two ends lie in the cells is asked in each
+// contract that has them: a part of the cells would lose where it begins, which is told.)
 pub fn near_live_until(hash: &[u16], from: usize, end: usize, visible: u16) -> usize
     requires { (from ≤ end) × (end ≤ length hash.now) }
     ensures { RunEnd hash.now visible from end result }

@@ -3,6 +3,8 @@ use Rattle.std.proofs.Common.{◌≡◌, ℕ, suc, ◌+◌, ◌<◌, ◌≤◌, 
 use Rattle.std.proofs.lemmas.List.{map-append}
 use Rattle.std.proofs.Math.ListN.{length-map, drop_of_length-le}
 use Rattle.std.proofs.Math.Seq.{drop-cons, take-suc, set_at, length-take-le, take-length}
+use Rattle.list_choose.specs.declared.choose.Chosen.{Chosen}
+use Rattle.list_choose.specs.InnerChosen.{chosen}
 use Rattle.list_choose.specs.Chosen.{in_bounds, firsts_after, firsts}
 use Rattle.list_choose.proofs.Chosen.{firsts_nil, firsts_of_none, firsts_skip, firsts_take, firsts_of_first, bounds_next, bounds_nil}
 
@@ -42,6 +44,10 @@ module _ (pages frames : List ℕ) (low high : ℕ) where
       chooses_take more n e =
           rw (n, append_assoc, its)
           (rw (next, firsts_take pages last (get_or list i 0) (drop (i + 1) list) (λ p. e (its ∙ p)), bounds_next frames low high (get_or list i 0) (firsts_after pages (get_or pages (get_or list i 0) 0) (drop (i + 1) list))) at so_far)
+
+-- what is chosen is in the list that is given back
+pub chosen_back : (c : Chosen) (l whole : List ℕ) → l ≡ c.list.now → chosen c ≡ whole → take c.count l ≡ whole
+chosen_back c l whole e h = rw e h
 
 -- Written: the values of the first i entries in the first cells.
 pub written_next : (f : ℕ → ℕ) (entries old new : List ℕ) (i : ℕ) → i < length entries → i < length old → new ≡ map f (take i entries) ++ drop i old → set new i (f (get_or entries i 0)) ≡ map f (take (i + 1) entries) ++ drop (i + 1) old

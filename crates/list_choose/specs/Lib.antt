@@ -1,2 +1,3 @@
 -- The entries that are chosen of a list.
 pub mod Chosen
+pub mod InnerChosen

@@ -1,7 +1,7 @@
--- The first entry of a page, and one turn of the gathering. Assumes nothing.
-use mathlib.Core.Path.{◌≡◌, refl, sym, ap, ◌∙◌}
+-- The first entry of a page, and the named entries one at a time. Assumes nothing.
+use mathlib.Core.Path.{◌≡◌, sym, ap, ◌∙◌}
 use mathlib.Core.Bool.{true, false}
-use mathlib.Core.List.{List, [], ◌∷◌, ◌++◌, append_assoc, append-nil}
+use mathlib.Core.List.{List, [], ◌∷◌, ◌++◌}
 use Prim.Native.Nat.{ℕ, zero, suc, ◌-◌, ◌<◌}
 use native.Mathlib.Omega.{arith}
 use lib.ListN.{length, get_or}
@@ -52,43 +52,3 @@ module _ (hash : List ℕ) (n : ℕ) (some : 0 < n) where
   pub down_unnamed : named hash (n - 1) ≡ false → down hash n ≡ down hash (n - 1)
   unfolding down
   down_unnamed e = let s : n ≡ suc (n - 1) = omega arith in ap (down hash) s ∙ rw e
-
--- Gathered: what is gathered, with what is to come, has the first entries of the whole.
-unfoldable pub Gathers : List ℕ → List ℕ → List ℕ → ℕ → List ℕ → Type 0
-Gathers pages hash l n whole = (page : ℕ) → head_of pages page (l ++ down hash n) ≡ head_of pages page whole
-
-pub gathers_all : (pages hash l : List ℕ) (n : ℕ) → Gathers pages hash l n (l ++ down hash n)
-unfolding Gathers
-gathers_all pages hash l n page = refl
-
-module _ (pages hash l : List ℕ) (n : ℕ) (whole : List ℕ) (so_far : Gathers pages hash l n whole) (some : 0 < n) where
-  pub gathers_unnamed : named hash (n - 1) ≡ false → Gathers pages hash l (n - 1) whole
-  unfolding Gathers
-  gathers_unnamed e page = rw (down_unnamed hash n some e) at (so_far page)
-
-  pub gathers_append : named hash (n - 1) ≡ true → (next : List ℕ) → next ≡ l ++ ((n - 1) ∷ []) → Gathers pages hash next (n - 1) whole
-  unfolding Gathers
-  gathers_append e next m page = rw (m, append_assoc) (rw (down_named hash n some e) at (so_far page))
-
-  -- an entry is left out behind one of its page
-  pub gathers_skip : named hash (n - 1) ≡ true → (j page : ℕ) → j < length l → get_or pages (get_or l j 0) 0 ≡ page → page ≡ get_or pages (n - 1) 0 → Gathers pages hash l (n - 1) whole
-  unfolding Gathers
-  gathers_skip e j page a p q x = head_skip pages x l (n - 1) (down hash (n - 1)) j a (p ∙ q) ∙ (rw (down_named hash n some e) at (so_far x))
-
--- all of a block
-pub gathers_end : (pages hash l : List ℕ) (n m : ℕ) (whole : List ℕ) → Gathers pages hash l n whole → n ≡ m → (page : ℕ) → head_of pages page (l ++ down hash m) ≡ head_of pages page whole
-unfolding Gathers
-gathers_end pages hash l n m whole so_far e page = rw e at (so_far page)
-
--- one block more
-pub gathers_block :
-    (pages hash l next : List ℕ) (n m first end : ℕ) (whole : List ℕ) → n ≡ end → m ≡ first
-    → ((page : ℕ) → head_of pages page (next ++ down hash first) ≡ head_of pages page (l ++ down hash end))
-    → Gathers pages hash l n whole → Gathers pages hash next m whole
-unfolding Gathers
-gathers_block pages hash l next n m first end whole p q block so_far page = rw q (block page ∙ (rw p at (so_far page)))
-
--- nothing is to come
-pub gathered_all : (pages hash l : List ℕ) (n : ℕ) (whole : List ℕ) → n ≡ 0 → Gathers pages hash l n whole → (page : ℕ) → head_of pages page l ≡ head_of pages page whole
-unfolding Gathers down
-gathered_all pages hash l n whole e all page = rw (e, append-nil) at (all page)

@@ -5,7 +5,6 @@ use Rattle.std.proofs.Math.Seq.{take-add, get_or-set_same, get_or-set_other}
 use Rattle.std.specs.Simd.{first_chunks}
 use borrow.Author.Tests.{eq-eqb, ne_eqb}
 use Rattle.index_find.specs.Index.{block_cells_of}
-use Rattle.index_find.proofs.Blocks.{mid_cells, length_block}
 use Rattle.list_sort.proofs.Keys.{by_eqb}
 use Rattle.list_gather.specs.Named.{has_cell, named}
 
@@ -81,12 +80,7 @@ named_in_block hash k n a b =
     rw (p, q)
 
 pub named_if_seen :
-    (hash : List ℕ) (seen : List Bool) (k : ℕ)
-    → ((v : ℕ) → 0 < v → v < 4097 → get_or seen v false ≡ has_cell (take (8192 * k + 8192 - 8192 * k) (drop (8192 * k) hash)) v)
+    (hash cells : List ℕ) (seen : List Bool) (k : ℕ) → cells ≡ block_cells_of k hash → ((v : ℕ) → 0 < v → v < 4097 → get_or seen v false ≡ has_cell cells v)
     → (n : ℕ) → 4096 * k ≤ n → n < 4096 * k + 4096 → named hash n ≡ get_or seen (n - 4096 * k + 1) false
-named_if_seen hash seen k all n a b =
-    named_in_block hash k n a b ∙ sym (rw (mid_cells k hash) at (all (n - 4096 * k + 1) (omega arith) (omega arith)))
-
--- the part that is block k's
-pub length_part : (k : ℕ) (hash : List ℕ) → 8192 * k + 8192 ≤ length hash → length (take (8192 * k + 8192 - 8192 * k) (drop (8192 * k) hash)) ≡ 8192
-length_part k hash b = rw (mid_cells k hash) (length_block k hash b)
+named_if_seen hash cells seen k e all n a b =
+    named_in_block hash k n a b ∙ sym (rw e at (all (n - 4096 * k + 1) (omega arith) (omega arith)))

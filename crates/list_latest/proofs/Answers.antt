@@ -5,7 +5,7 @@ use mathlib.Core.List.{List, [], ◌∷◌, ◌++◌, map, map-map}
 use Prim.Native.Nat.{ℕ, zero, suc}
 use native.Mathlib.Omega.{arith}
 use lib.Dec.{ltb}
-use lib.ListN.{length, get_or, drop, length-map}
+use lib.ListN.{length, get_or, take, drop, length-map}
 use borrow.Author.Tests.{le-ltb}
 use Rattle.wal_types.specs.declared.Header.{Header}
 use Rattle.wal_types.specs.Memory.{Memory, Process}
@@ -15,6 +15,8 @@ use Rattle.wal_types.specs.declared.refusal.Refusal.TheVariants.{Settings, Short
 use Rattle.wal_types.specs.Call.{Pair, pair, Call, Outcome, Done, accepted_or, listed, refused, done, after}
 use Rattle.index_find.specs.Index.{bad_settings, short_index, index_refusal, index_in}
 use Rattle.index_find.specs.Find.{visible}
+use Rattle.index_find.proofs.Settings.{passed_frames}
+use Rattle.index_find.proofs.Search.{visible_front}
 use Rattle.std.specs.Prelude.{Result, Ok, Err}
 use Rattle.wal_types.specs.declared.refusal.Refusal.{Refusal}
 use Rattle.wal_types.proofs.Refusals.{number_not_zero}
@@ -130,10 +132,10 @@ module _ (capacity b : ℕ) (h : Header) (pages frames hash : List ℕ) (low hig
     listed_visible (Ok n) w = all_listed n w
     listed_visible (Err r) w = too_many r w
 
-    -- what was written is what the call lists
+    -- what was written is what the call lists; of the frames those of the entries were searched
     pub listed_or_short :
-        (v : ℕ) → v ≡ visible frames h.frame_index_len high → (r : Result ℕ Refusal)
+        (v : ℕ) → v ≡ visible (take h.frame_index_len frames) (length (take h.frame_index_len frames)) high → (r : Result ℕ Refusal)
         → Writes pages frames (in_bounds frames low high (latest pages hash v)) r old_pages old_frames new_pages new_frames
         → (z : Memory) (p : Process) → Lists (iter_latest_frames capacity b low high (length old_pages) (length old_frames)) (index_in z h pages frames hash) p r old_pages old_frames new_pages new_frames
     listed_or_short v e r w =
-        listed_visible r (subst (λ (x : ℕ). Writes pages frames (in_bounds frames low high (latest pages hash x)) r old_pages old_frames new_pages new_frames) e w)
+        listed_visible r (subst (λ (x : ℕ). Writes pages frames (in_bounds frames low high (latest pages hash x)) r old_pages old_frames new_pages new_frames) (e ∙ visible_front frames h.frame_index_len high (passed_frames capacity b h _ _ _ (sym ok))) w)

@@ -6,4 +6,4 @@ use Rattle.list_latest.specs.Latest.{latest}
 
 -- the entries that are listed: each page's latest among the visible ones, if its frame is within the bounds
 abbrev pub to_list : Listing → List ℕ
-to_list l = in_bounds l.frames.now l.min_frame l.max_frame (latest l.pages.now l.hash.now l.visible)
+to_list l = in_bounds l.visible.frames.now l.min_frame l.max_frame (latest l.visible.pages.now l.visible.hash.now l.visible.count)

@@ -16,10 +16,11 @@ mod listing;
 use crate::listing::Listing;
 use index_find::{find, index};
 use index_hash::BLOCK_ENTRIES;
-use list_choose::choose;
-use list_gather::gather;
+use list_choose::choose::{self, FrameBounds};
+use list_gather::gather::Visible;
 use wal_types::Header;
 use wal_types::refusal::Refusal;
+use wal_types::settings::IndexSettings;
 
 // Every block's entries.
 const ALL_ENTRIES: usize = 65536;
@@ -27,19 +28,18 @@ const ALL_ENTRIES: usize = 65536;
 impl Listing<'_> {
     // The entries to be listed: they come into the spare.
     fn latest_entries(&self, list: &mut [u16], spare: &mut [u16]) -> usize
-        requires { (self.now.visible ≤ length list.old) × (self.now.visible ≤ length spare.old) }
-        ensures { (result ≤ self.now.visible) × (take result spare.new ≡ to_list self.now) }
+        requires { (self.now.visible.count ≤ length list.old) × (self.now.visible.count ≤ length spare.old) }
+        ensures { (result ≤ self.now.visible.count) × (take result spare.new ≡ to_list self.now) }
     {
-        let gathered = gather::gather(self.pages, self.hash, self.visible, list);
-        list_sort::sort_by_page(self.pages, list, spare, gathered);
-        choose::choose(
-            self.pages,
-            self.frames,
-            &list[..gathered],
-            self.min_frame,
-            self.max_frame,
-            spare,
-        )
+        let count = self.visible.gather(list);
+        let gathered = &mut list[..count];
+        list_sort::sort_by_page(self.visible.pages, gathered, &mut spare[..count]);
+        let bounds = FrameBounds {
+            frames: self.visible.frames,
+            min_frame: self.min_frame,
+            max_frame: self.max_frame,
+        };
+        choose::choose(self.visible.pages, &bounds, gathered, spare)
     }
 
     // The list, with lists to work in that have room for all visible entries.
@@ -50,16 +50,16 @@ impl Listing<'_> {
         list: &mut [u16],
         spare: &mut [u16],
     ) -> Result<usize, Refusal>
-        requires { (self.now.visible ≤ length list.old) × (self.now.visible ≤ length spare.old) }
-        ensures { Writes self.now.pages.now self.now.frames.now (to_list self.now) result out_pages.old out_frames.old out_pages.new out_frames.new }
+        requires { (self.now.visible.count ≤ length list.old) × (self.now.visible.count ≤ length spare.old) }
+        ensures { Writes self.now.visible.pages.now self.now.visible.frames.now (to_list self.now) result out_pages.old out_frames.old out_pages.new out_frames.new }
     {
         let count = self.latest_entries(list, spare);
         if out_pages.len() < count || out_frames.len() < count {
             return Err(Refusal::ShortList);
         }
         choose::write_pairs(
-            self.pages,
-            self.frames,
+            self.visible.pages,
+            self.visible.frames,
             &spare[..count],
             out_pages,
             out_frames,
@@ -74,8 +74,8 @@ impl Listing<'_> {
         out_pages: &mut [u64],
         out_frames: &mut [u64],
     ) -> Result<usize, Refusal>
-        requires { (self.now.visible ≤ N) × (N ≤ 65536) }
-        ensures { Writes self.now.pages.now self.now.frames.now (to_list self.now) result out_pages.old out_frames.old out_pages.new out_frames.new }
+        requires { (self.now.visible.count ≤ N) × (N ≤ 65536) }
+        ensures { Writes self.now.visible.pages.now self.now.visible.frames.now (to_list self.now) result out_pages.old out_frames.old out_pages.new out_frames.new }
     {
         let mut list = [0; N];
         let mut spare = [0; N];
@@ -89,8 +89,7 @@ impl Listing<'_> {
 // One block's entries have room of their own: an array is cleared where it is made, and room for every block's entries is
 // 262,144 bytes. With that room alone a list of 1 or 10 entries took more than twice as long, longer than the Rust's.
 pub fn iter_latest_frames(
-    capacity: u32,
-    max_blocks: u32,
+    settings: IndexSettings,
     header: Header,
     pages: &[u64],
     frames: &[u64],
@@ -100,27 +99,23 @@ pub fn iter_latest_frames(
     out_pages: &mut [u64],
     out_frames: &mut [u64],
 ) -> Result<usize, Refusal>
-    ensures { (z : Memory) (p : Process) → Lists (iter_latest_frames capacity max_blocks min_frame max_frame (length out_pages.old) (length out_frames.old)) (index_in z header pages.now frames.now hash.now) p result out_pages.old out_frames.old out_pages.new out_frames.new }
+    ensures { (z : Memory) (p : Process) → Lists (iter_latest_frames settings.capacity settings.max_blocks min_frame max_frame (length out_pages.old) (length out_frames.old)) (index_in z header pages.now frames.now hash.now) p result out_pages.old out_frames.old out_pages.new out_frames.new }
 {
-    index::check_index(
-        capacity,
-        max_blocks,
-        header,
-        pages.len(),
-        frames.len(),
-        hash.len(),
-    )?;
+    index::check_index(settings, header, pages, frames, hash)?;
     let len = header.frame_index_len as usize;
-    let visible = find::visible_frame_index_slots(frames, len, max_frame);
-    let listing = Listing {
+    let count = find::visible_frame_index_slots(&frames[..len], max_frame);
+    let visible = Visible {
         pages,
         frames,
         hash,
+        count,
+    };
+    let listing = Listing {
         visible,
         min_frame,
         max_frame,
     };
-    if visible <= BLOCK_ENTRIES {
+    if count <= BLOCK_ENTRIES {
         listing.write_with_room::<BLOCK_ENTRIES>(out_pages, out_frames)
     } else {
         listing.write_with_room::<ALL_ENTRIES>(out_pages, out_frames)

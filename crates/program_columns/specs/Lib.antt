@@ -2,3 +2,4 @@
 pub mod Field
 pub mod Request
 pub mod Answer
+pub mod InnerForm

@@ -13,34 +13,21 @@ fn digit(n: u64) -> u8
     b'0' + (n % 10) as u8
 }
 
-// A number's digits, in columns that are blank. (By their places: of an iterator over `&mut` columns from the end a proof knows
-// nothing.)
-fn fill_before(columns: &mut [u8], n: u64)
-    requires { columns.old ≡ replicate (length columns.old) 32 }
-    ensures { columns.new ≡ columns_before (length columns.old) n [] }
-{
-    let mut left = n;
-    for i in (0..columns.len()).rev() {
-        if left == 0 {
-            return;
-        }
-        columns[i] = digit(left);
-        left /= 10;
-    }
-}
-
-// A number over all columns, which are blank, right-justified.
-#[tactic(auto, using(crate::proofs::Lines::blanks_front, crate::proofs::Lines::all_columns, crate::proofs::Lines::no_columns))]
+// A number over all columns, which are blank, right-justified: its last digit, and the rest of it before that.
+#[tactic(auto, using(crate::proofs::Lines::blanks_front, crate::proofs::Lines::all_columns, crate::proofs::Lines::last_digit, crate::proofs::Lines::no_columns))]
 fn fill_columns(columns: &mut [u8], n: u64)
     requires { columns.old ≡ replicate (length columns.old) 32 }
     ensures { columns.new ≡ in_columns (length columns.old) n }
 {
     if let Some((last, before)) = columns.split_last_mut() {
         *last = digit(n);
-        fill_before(before, n / 10);
+        if 10 <= n {
+            fill_columns(before, n / 10);
+        }
     }
 }
 
+#[tactic(auto, unfolding(crate::specs::Answer::columns_before, crate::specs::Answer::in_columns, crate::specs::Answer::pair_line))]
 fn pair_line(page: u64, frame: u64) -> [u8; 26]
     ensures { result ≡ pair_line page frame }
 {
@@ -53,6 +40,7 @@ fn pair_line(page: u64, frame: u64) -> [u8; 26]
 }
 
 // An answer's 12 columns stay blank where nothing was found, or the call was refused.
+#[tactic(auto, unfolding(crate::specs::Answer::columns_before, crate::specs::Answer::in_columns, crate::specs::Answer::answer_columns, crate::specs::Answer::answer_line))]
 fn answer_line(letter: u8, refusal: u32, answer: Option<u64>) -> [u8; 17]
     ensures { result ≡ answer_line letter refusal answer }
 {

@@ -1,6 +1,7 @@
 // What a line asks.
-ghost use Rattle.std.specs.Prelude.{◌≡◌, ◌+◌, ◌≤◌, IsTrue, length};
-ghost use Rattle.program_columns.specs.Request.{has_form, field_at, request_of};
+ghost use Rattle.std.specs.Prelude.{◌≡◌, length};
+ghost use Rattle.program_columns.specs.Request.{request_of};
+ghost use Rattle.program_columns.specs.InnerForm.{request_by};
 
 use crate::field::read_field;
 
@@ -16,40 +17,33 @@ pub enum Request {
     List(u64, u64),
 }
 
-fn has_form(line: &[u8], letter: u8, fields: usize) -> bool
-    requires { fields ≤ 3 }
-    ensures { result ≡ has_form line.now letter fields }
+// What a letter asks with these fields.
+#[tactic(auto, unfolding(crate::specs::InnerForm::request_by))]
+fn request_by(letter: u8, fields: &[[u8; 12]]) -> Option<Request>
+    ensures { result ≡ request_by letter fields.now }
 {
-    line.len() == 12 * fields + 1 && line[0] == letter
+    match (letter, fields) {
+        (b'R', [page, frame]) => Some(Request::Record(read_field(page)?, read_field(frame)?)),
+        (b'B', [frame]) => Some(Request::Rollback(read_field(frame)?)),
+        (b'F', [page, min, max]) => Some(Request::Find(
+            read_field(page)?,
+            read_field(min)?,
+            read_field(max)?,
+        )),
+        (b'L', [min, max]) => Some(Request::List(read_field(min)?, read_field(max)?)),
+        _ => None,
+    }
 }
 
-#[tactic(auto, unfolding(crate::specs::Request::field_at))]
-fn field_at(line: &[u8], column: usize) -> Option<u64>
-    requires { column + 12 ≤ length line.now }
-    ensures { result ≡ field_at line.now column }
-{
-    let end = column + 12;
-    read_field(&line[column..end])
-}
-
-// Reads a line, which is given without its newline. None: it is of another form. (Field by field: over `as_chunks` and one match
-// the proof did not close.)
-#[tactic(auto, using(crate::proofs::Forms::record_asked, crate::proofs::Forms::rollback_asked, crate::proofs::Forms::find_asked, crate::proofs::Forms::list_asked, crate::proofs::Forms::nothing_asked))]
+// Reads a line, which is given without its newline. None: it is of another form.
+#[tactic(auto, using(crate::proofs::Forms::empty_line, crate::proofs::Forms::columns_left, crate::proofs::Forms::asked_by_line))]
 pub fn read_request(line: &[u8]) -> Option<Request>
     ensures { result ≡ request_of line.now }
 {
-    if has_form(line, b'R', 2) {
-        return Some(Request::Record(field_at(line, 1)?, field_at(line, 13)?));
+    let (letter, columns) = line.split_first()?;
+    let (fields, rest) = columns.as_chunks::<12>();
+    if !rest.is_empty() {
+        return None;
     }
-    if has_form(line, b'B', 1) {
-        return Some(Request::Rollback(field_at(line, 1)?));
-    }
-    if has_form(line, b'F', 3) {
-        let page = field_at(line, 1)?;
-        return Some(Request::Find(page, field_at(line, 13)?, field_at(line, 25)?));
-    }
-    if has_form(line, b'L', 2) {
-        return Some(Request::List(field_at(line, 1)?, field_at(line, 13)?));
-    }
-    None
+    request_by(*letter, fields)
 }

@@ -1,12 +1,13 @@
 // The index, with the program's settings: capacity 4,096, one block, and no growth.
-use index_end::cells::IndexCells;
 use index_record::record::Recorded;
 use wal_types::refusal::Refusal;
+use wal_types::settings::IndexSettings;
 use wal_types::{FRAME_INDEX_BLOCK_CAPACITY, FRAME_INDEX_BLOCK_HASH_SLOTS, Header};
 
-const CAPACITY: u32 = 4096;
-
-const MAX_BLOCKS: u32 = 1;
+const SETTINGS: IndexSettings = IndexSettings {
+    capacity: 4096,
+    max_blocks: 1,
+};
 
 // One block's entries, which are as many pairs as a list can have, and its hash cells.
 pub const ENTRIES: usize = FRAME_INDEX_BLOCK_CAPACITY as usize;
@@ -48,17 +49,11 @@ impl Index {
         }
     }
 
-    // Keeps the cells that a call leaves.
-    fn keep(&mut self, cells: IndexCells) {
-        self.header = cells.put_in(self.header);
-    }
-
     // Whether the entry was stored; else it is dropped.
     pub fn record(&mut self, page: u64, frame: u64) -> Result<bool, Refusal> {
         let recorded = index_record::record::record_frame(
-            CAPACITY,
-            MAX_BLOCKS,
-            self.header,
+            SETTINGS,
+            &mut self.header,
             &mut self.pages,
             &mut self.frames,
             &mut self.hash,
@@ -66,30 +61,24 @@ impl Index {
             frame,
             false,
         )?;
-        let (Recorded::Stored(cells) | Recorded::Dropped(cells)) = recorded;
-        self.keep(cells);
-        Ok(matches!(recorded, Recorded::Stored(_)))
+        Ok(matches!(recorded, Recorded::Stored))
     }
 
     // The length kept.
     pub fn rollback(&mut self, frame: u64) -> Result<u32, Refusal> {
-        let cells = index_record::rollback::rollback_frames(
-            CAPACITY,
-            MAX_BLOCKS,
-            self.header,
+        index_record::rollback::rollback_frames(
+            SETTINGS,
+            &mut self.header,
             &self.pages,
             &self.frames,
             &mut self.hash,
             frame,
-        )?;
-        self.keep(cells);
-        Ok(cells.frame_index_len)
+        )
     }
 
     pub fn find(&self, page: u64, min_frame: u64, max_frame: u64) -> Result<Option<u64>, Refusal> {
         let looked = index_find::find::find_frame(
-            CAPACITY,
-            MAX_BLOCKS,
+            SETTINGS,
             self.header,
             &self.pages,
             &self.frames,
@@ -111,8 +100,7 @@ impl Index {
         frames: &mut [u64],
     ) -> Result<usize, Refusal> {
         list_latest::iter_latest_frames(
-            CAPACITY,
-            MAX_BLOCKS,
+            SETTINGS,
             self.header,
             &self.pages,
             &self.frames,

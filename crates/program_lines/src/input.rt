@@ -8,20 +8,21 @@ use std::io::{BufRead, BufReader, BufWriter, Read, Write};
 // So many bytes are read at once, and so many bytes of answers wait at most.
 const BUFFER_LEN: usize = 65536;
 
-// A source that is not read again once it ended.
+// A source that is not read again once it ended: it is given up then.
 #[derive(Drop)]
 struct ToItsEnd<R> {
-    source: R,
-    is_ended: bool,
+    source: Option<R>,
 }
 
-impl<R: Read> Read for ToItsEnd<R> {
+impl<R: Read + Drop> Read for ToItsEnd<R> {
     fn read(&mut self, bytes: &mut [u8]) -> io::Result<usize> {
-        if self.is_ended {
+        let Some(source) = &mut self.source else {
             return Ok(0);
+        };
+        let len = source.read(bytes)?;
+        if len == 0 {
+            self.source = None;
         }
-        let len = self.source.read(bytes)?;
-        self.is_ended = len == 0;
         Ok(len)
     }
 }
@@ -36,8 +37,7 @@ struct Lines<R: Read + Drop> {
 impl<R: Read + Drop> Lines<R> {
     fn new(alloc: Global, source: R, limit: u64) -> io::Result<Lines<R>> {
         let unread = ToItsEnd {
-            source,
-            is_ended: false,
+            source: Some(source),
         };
         let source = BufReader::with_capacity(alloc, BUFFER_LEN, unread)?;
         let line = Vec::new(alloc);
@@ -69,7 +69,8 @@ impl<R: Read + Drop> Lines<R> {
 }
 
 // Answers each line of a source, which is given with what takes its answer. A proved loop has to end, and nothing says that
-// the input does: it counts its turns, to a number that no run uses up.
+// the input does: it counts its turns, to a number that no run uses up. (A `for` over `lines` or `split` would keep a line
+// whole, however long it is, and write nothing before it reads.)
 pub fn answer_lines<R, W, F>(
     alloc: Global,
     source: R,

@@ -4,7 +4,8 @@ fn digit(b: u8) -> Option<u64> {
     char::from(b).to_digit(10).map(u64::from)
 }
 
-// A field as a number: 1 to 20 decimal digits that fit 64 bits.
+// A field as a number: 1 to 20 decimal digits that fit 64 bits. (program_columns has its own: of 12 columns, proved to be what
+// its definition says.)
 pub fn number(field: &[u8]) -> Option<u64> {
     if field.is_empty() || field.len() > 20 {
         return None;

@@ -23,7 +23,6 @@ use crate::header_calls::HeaderAnswer;
 use crate::reader_calls::ReaderAnswer;
 use crate::{header_calls, reader_calls};
 use std::fmt;
-use wal_types::refusal::Refusal;
 
 #[derive(Drop)]
 pub enum Answer {
@@ -37,14 +36,6 @@ impl fmt::Display for Answer {
             Answer::OnHeader(answer) => write!(f, "{answer}"),
             Answer::OnSlots(answer) => write!(f, "{answer}"),
         }
-    }
-}
-
-// The number of a call's refusal, or 0.
-pub fn refusal_number<T>(told: &Result<T, Refusal>) -> u32 {
-    match told {
-        Ok(_) => 0,
-        Err(refusal) => u32::from(*refusal),
     }
 }
 

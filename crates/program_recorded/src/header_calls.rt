@@ -1,8 +1,7 @@
 // The calls on the header: publishes, bumps and the two locks.
-use crate::calls::refusal_number;
 use header_locks::Lock;
 use std::fmt;
-use wal_types::refusal::Refusal;
+use wal_types::refusal::{Refusal, refusal_told};
 use wal_types::{Header, SharedOwnerRecord, SharedWalOwnershipMode};
 
 // What a call tells, and the header and the own cell, where it is lent one, as the call leaves them.
@@ -18,7 +17,7 @@ impl fmt::Display for HeaderAnswer {
         write!(
             f,
             "{} {} {} {} {} {} {} {} {} {} {} {} {} {} {}",
-            refusal_number(&self.told),
+            refusal_told(self.told),
             self.told.unwrap_or(0),
             self.header.frame_index_blocks,
             self.header.frame_index_len,
@@ -43,20 +42,35 @@ impl fmt::Display for HeaderAnswer {
 
 // None: a cell of 32 bits has more.
 fn header_of(cells: &[u64; 13]) -> Option<Header> {
+    let [
+        frame_index_blocks,
+        frame_index_len,
+        frame_index_overflowed,
+        max_frame,
+        nbackfills,
+        transaction_count,
+        visibility_generation,
+        checkpoint_seq,
+        checkpoint_epoch,
+        checksum_1,
+        checksum_2,
+        writer_owner,
+        checkpoint_owner,
+    ] = *cells;
     Some(Header {
-        frame_index_blocks: u32::try_from(cells[0]).ok()?,
-        frame_index_len: u32::try_from(cells[1]).ok()?,
-        frame_index_overflowed: u32::try_from(cells[2]).ok()?,
-        max_frame: cells[3],
-        nbackfills: cells[4],
-        transaction_count: cells[5],
-        visibility_generation: cells[6],
-        checkpoint_seq: u32::try_from(cells[7]).ok()?,
-        checkpoint_epoch: u32::try_from(cells[8]).ok()?,
-        checksum_1: u32::try_from(cells[9]).ok()?,
-        checksum_2: u32::try_from(cells[10]).ok()?,
-        writer_owner: cells[11],
-        checkpoint_owner: cells[12],
+        frame_index_blocks: u32::try_from(frame_index_blocks).ok()?,
+        frame_index_len: u32::try_from(frame_index_len).ok()?,
+        frame_index_overflowed: u32::try_from(frame_index_overflowed).ok()?,
+        max_frame,
+        nbackfills,
+        transaction_count,
+        visibility_generation,
+        checkpoint_seq: u32::try_from(checkpoint_seq).ok()?,
+        checkpoint_epoch: u32::try_from(checkpoint_epoch).ok()?,
+        checksum_1: u32::try_from(checksum_1).ok()?,
+        checksum_2: u32::try_from(checksum_2).ok()?,
+        writer_owner,
+        checkpoint_owner,
     })
 }
 

@@ -58,11 +58,7 @@ impl Block {
     // How many cells differ after the hash is rebuilt from the pages.
     pub fn differences(&self) -> usize {
         let mut hash = [0; BLOCK_CELLS];
-        index_rebuild::rebuild::rebuild_frame_index_block_hash(
-            &mut hash,
-            &self.pages,
-            self.pages.len(),
-        );
+        index_rebuild::rebuild::rebuild_frame_index_block_hash(&mut hash, &self.pages);
         hash.iter().zip(&self.cells).filter(|(a, b)| a != b).count()
     }
 }

@@ -1,66 +1,52 @@
-// min_active_reader_frame, the floor below which no live reader's mark lies, and has_active_db_file_reader. Both reclaim
-// the dead slots that they meet. A failed probe (refusal 15) is looked for first, so that a refused call changes nothing.
-// The pass over all slots tells both what the floor is and whether a reader of the database file is live; the copy-back
-// limit asks for both.
+// min_active_reader_frame, the floor below which no live reader's mark lies, and has_active_db_file_reader. Both
+// reclaim the dead slots that they meet. A failed probe (refusal 15) is looked for first, so that a refused call
+// changes nothing. The pass over all slots tells both what the floor is and whether a reader of the database file is
+// live; the copy-back limit asks for both.
 ghost use Rattle.std.specs.Prelude.{◌≡◌, [], ◌∷◌};
 ghost use Rattle.wal_types.specs.Refusal.{refused_number};
-ghost use Rattle.reader_slots.specs.Slots.{ReaderCall};
-ghost use Rattle.reader_slots.specs.Inner.{HoldSlots};
+ghost use Rattle.reader_slots.specs.Inner.{HoldSlots, LentCall};
 ghost use Rattle.reader_floor.specs.Floor.{min_active_reader_frame, has_active_db_file_reader, min_frame_answer, db_file_answer};
 ghost use Rattle.reader_floor.specs.Inner.{all_slots_refusal, MarksOf, DbFileOf};
 
 use reader_probe::live::LiveMarks;
 use reader_probe::{live, probe};
 use reader_slots::slots;
-use reader_slots::slots::SlotLens;
+use reader_slots::slots::SharedSlots;
+use wal_types::DB_FILE_READER_FRAME;
 use wal_types::refusal::Refusal;
-use wal_types::{DB_FILE_READER_FRAME, SharedWalOwnershipMode};
+use wal_types::settings::ReaderSettings;
 
 // The refusals of a call that probes every slot.
 #[tactic(auto, using(crate::proofs::Floored::early_number, crate::proofs::Floored::late_number, reader_slots::proofs::Calls::enough))]
 pub fn check_all_slots(
-    n: usize,
-    mode: SharedWalOwnershipMode,
-    bitmap: &[u64],
-    reader_frames: &[u64],
-    reader_owners: &[u64],
+    settings: ReaderSettings,
+    slots: &SharedSlots<'_>,
     local_readers: &[u64],
     card: &[u8],
 ) -> Result<(), Refusal>
-    ensures { refused_number result ≡ all_slots_refusal n mode card.now bitmap.now reader_frames.now reader_owners.now local_readers.now }
+    ensures { refused_number result ≡ all_slots_refusal settings card.now slots.now local_readers.now }
 {
-    let lens = SlotLens::of(bitmap, reader_frames, reader_owners, local_readers);
-    slots::check_slots(n, lens)?;
-    probe::check_floor(n, mode, reader_frames, reader_owners, local_readers, card)
+    slots::check_slots(settings.n, slots, local_readers)?;
+    probe::check_floor(settings, slots, local_readers, card)
 }
 
 // The marks of all live slots, in one pass. (A for, as below: a proof knows nothing of a closure that stores.)
+#[tactic(auto, using(crate::proofs::Live::marks_start, crate::proofs::Live::marks_end))]
 pub fn live_marks(
-    n: usize,
-    mode: SharedWalOwnershipMode,
-    bitmap: &mut [u64],
-    reader_frames: &mut [u64],
-    reader_owners: &mut [u64],
+    settings: ReaderSettings,
+    slots: &mut SharedSlots<'_>,
     local_readers: &[u64],
     card: &[u8],
 ) -> LiveMarks
-    requires { HoldSlots n bitmap.old (reader_frames.old ∷ reader_owners.old ∷ local_readers.now ∷ card.now ∷ []) }
-    ensures { MarksOf n mode card.now bitmap.old reader_frames.old reader_owners.old local_readers.now result bitmap.new reader_frames.new reader_owners.new }
+    requires { HoldSlots settings.n slots.old (local_readers.now ∷ card.now ∷ []) }
+    ensures { MarksOf settings card.now slots.old local_readers.now result slots.new }
 {
     let mut marks = LiveMarks {
         floor: None,
         db_file_reader: false,
     };
-    for slot in 0..n {
-        let live = live::live_reader_frame(
-            mode,
-            bitmap,
-            reader_frames,
-            reader_owners,
-            local_readers,
-            card,
-            slot,
-        );
+    for slot in 0..settings.n {
+        let live = live::live_reader_frame(settings.mode, slots, local_readers, card, slot);
         marks = live::lower_marks(marks, live);
     }
     marks
@@ -68,62 +54,33 @@ pub fn live_marks(
 
 // The least mark above 0 of all live readers: frames above it cannot be copied back. Readers of the database file alone
 // are left out.
-#[tactic(auto, using(crate::proofs::Floored::passed, crate::proofs::Floored::floor_accepted))]
+#[tactic(auto, using(crate::proofs::Floored::passed))]
 pub fn min_active_reader_frame(
-    n: usize,
-    mode: SharedWalOwnershipMode,
-    bitmap: &mut [u64],
-    reader_frames: &mut [u64],
-    reader_owners: &mut [u64],
+    settings: ReaderSettings,
+    slots: &mut SharedSlots<'_>,
     local_readers: &[u64],
     card: &[u8],
 ) -> Result<Option<u64>, Refusal>
-    ensures { ReaderCall (min_active_reader_frame n mode card.now) bitmap.old reader_frames.old reader_owners.old local_readers.now (min_frame_answer result) bitmap.new reader_frames.new reader_owners.new local_readers.now }
+    ensures { LentCall (min_active_reader_frame settings.n settings.mode card.now) slots.old local_readers.now (min_frame_answer result) slots.new local_readers.now }
 {
-    check_all_slots(
-        n,
-        mode,
-        bitmap,
-        reader_frames,
-        reader_owners,
-        local_readers,
-        card,
-    )?;
-    let marks = live_marks(
-        n,
-        mode,
-        bitmap,
-        reader_frames,
-        reader_owners,
-        local_readers,
-        card,
-    );
+    check_all_slots(settings, slots, local_readers, card)?;
+    let marks = live_marks(settings, slots, local_readers, card);
     Ok(marks.floor)
 }
 
 // Whether a live slot has mark 0. It stops at the first one.
+#[tactic(auto, using(crate::proofs::Live::db_file_start, crate::proofs::Live::db_file_end))]
 fn finds_db_file_reader(
-    n: usize,
-    mode: SharedWalOwnershipMode,
-    bitmap: &mut [u64],
-    reader_frames: &mut [u64],
-    reader_owners: &mut [u64],
+    settings: ReaderSettings,
+    slots: &mut SharedSlots<'_>,
     local_readers: &[u64],
     card: &[u8],
 ) -> bool
-    requires { HoldSlots n bitmap.old (reader_frames.old ∷ reader_owners.old ∷ local_readers.now ∷ card.now ∷ []) }
-    ensures { DbFileOf n mode card.now bitmap.old reader_frames.old reader_owners.old local_readers.now result bitmap.new reader_frames.new reader_owners.new }
+    requires { HoldSlots settings.n slots.old (local_readers.now ∷ card.now ∷ []) }
+    ensures { DbFileOf settings card.now slots.old local_readers.now result slots.new }
 {
-    for slot in 0..n {
-        let live = live::live_reader_frame(
-            mode,
-            bitmap,
-            reader_frames,
-            reader_owners,
-            local_readers,
-            card,
-            slot,
-        );
+    for slot in 0..settings.n {
+        let live = live::live_reader_frame(settings.mode, slots, local_readers, card, slot);
         if live == Some(DB_FILE_READER_FRAME) {
             return true;
         }
@@ -132,28 +89,16 @@ fn finds_db_file_reader(
 }
 
 // Whether a reader in any process reads only the database file.
-#[tactic(auto, using(crate::proofs::Floored::db_file_told, reader_slots::proofs::Calls::enough))]
+#[tactic(auto, using(crate::proofs::Floored::db_file_room, crate::proofs::Floored::db_file_told, reader_slots::proofs::Calls::enough))]
 pub fn has_active_db_file_reader(
-    n: usize,
-    mode: SharedWalOwnershipMode,
-    bitmap: &mut [u64],
-    reader_frames: &mut [u64],
-    reader_owners: &mut [u64],
+    settings: ReaderSettings,
+    slots: &mut SharedSlots<'_>,
     local_readers: &[u64],
     card: &[u8],
 ) -> Result<bool, Refusal>
-    ensures { ReaderCall (has_active_db_file_reader n mode card.now) bitmap.old reader_frames.old reader_owners.old local_readers.now (db_file_answer result) bitmap.new reader_frames.new reader_owners.new local_readers.now }
+    ensures { LentCall (has_active_db_file_reader settings.n settings.mode card.now) slots.old local_readers.now (db_file_answer result) slots.new local_readers.now }
 {
-    let lens = SlotLens::of(bitmap, reader_frames, reader_owners, local_readers);
-    slots::check_slots(n, lens)?;
-    probe::check_db_file(n, mode, reader_frames, reader_owners, local_readers, card)?;
-    Ok(finds_db_file_reader(
-        n,
-        mode,
-        bitmap,
-        reader_frames,
-        reader_owners,
-        local_readers,
-        card,
-    ))
+    slots::check_slots(settings.n, slots, local_readers)?;
+    probe::check_db_file(settings, slots, local_readers, card)?;
+    Ok(finds_db_file_reader(settings, slots, local_readers, card))
 }

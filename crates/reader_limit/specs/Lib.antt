@@ -1,2 +1,3 @@
 -- The copy-back limit.
 pub mod Limit
+pub mod Inner

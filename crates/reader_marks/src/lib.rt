@@ -1,24 +1,24 @@
-// One record of the registry of shared marks: whether a scan wants it, what a scan tells, and the record with a holder more
-// or less. The registry has a record for each mark that connections of this process share.
+// One record of the registry of shared marks, with a holder more or less, and what a scan of the registry tells. The registry
+// has a record for each mark that connections of this process share.
 #![tactic(auto)]
 
 ghost use Rattle.std.specs.Prelude.{◌≡◌};
 ghost use Rattle.std.specs.List.{list_all};
 ghost use Rattle.reader_marks.specs.Registry.{is_empty, one_less};
 ghost use Rattle.reader_marks.specs.InnerChange.{one_more_below, first_held};
-ghost use Rattle.reader_marks.specs.InnerScan.{picks, eight_empty};
+ghost use Rattle.reader_marks.specs.InnerScan.{eight_empty};
 
-use wal_types::{SharedOwnerRecord, SharedReadMark};
+use wal_types::SharedReadMark;
+use wal_types::settings::Reader;
 
 // A record has no more holders than this.
 pub const MOST_HOLDERS: u32 = 65535;
 
-// What a scan looks for: the record of a mark, that of a slot, or an empty one.
+// A reader's slot at a mark that connections share. The reader's owner is the first holder.
 #[derive(Clone, Copy)]
-pub enum Wanted {
-    Mark(u64),
-    Slot(usize),
-    Empty,
+pub struct SharedSlot {
+    pub slot: u32,
+    pub reader: Reader,
 }
 
 // What a registration or a release asks of the registry: the place of a mark's record and its contents or, where there is
@@ -27,6 +27,14 @@ pub enum Wanted {
 pub enum Seen {
     Shared { place: usize, item: SharedReadMark },
     New { free: Option<usize> },
+}
+
+// What a caller says of the registry, which is not lent: how many records it has, and what a scan of its first n for a mark
+// sees.
+#[derive(Clone, Copy)]
+pub struct MarkInRegistry {
+    pub records: usize,
+    pub seen: Seen,
 }
 
 // Whether none of eight records is in use. All eight are looked at before the one test, so that the compiler makes a load of
@@ -47,20 +55,6 @@ pub fn eight_empty(part: &[SharedReadMark]) -> bool
         return false;
     };
     all_empty(eight)
-}
-
-impl Wanted {
-    // Whether the record is wanted.
-    #[tactic(auto, unfolding(crate::specs::InnerScan::picks))]
-    pub fn picks(self, item: SharedReadMark) -> bool
-        ensures { result ≡ picks self item }
-    {
-        match self {
-            Wanted::Mark(mark) => item.holders != 0 && item.mark == mark,
-            Wanted::Slot(slot) => item.holders != 0 && item.slot as usize == slot,
-            Wanted::Empty => item.holders == 0,
-        }
-    }
 }
 
 // A record with a holder more. One with 65,535 holders or more stays as it is.
@@ -87,13 +81,13 @@ pub fn with_holder_less(item: SharedReadMark) -> SharedReadMark
 }
 
 // A new record, with its first holder.
-pub fn first_held(mark: u64, slot: u32, owner: SharedOwnerRecord) -> SharedReadMark
-    ensures { result ≡ first_held mark slot owner }
+pub fn first_held(taken: SharedSlot) -> SharedReadMark
+    ensures { result ≡ first_held taken }
 {
     SharedReadMark {
-        mark,
-        slot,
-        owner,
+        mark: taken.reader.mark,
+        slot: taken.slot,
+        owner: taken.reader.owner,
         holders: 1,
     }
 }

@@ -1,2 +1,3 @@
 -- update_reader and unregister_reader.
 pub mod Update
+pub mod Inner

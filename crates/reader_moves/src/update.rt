@@ -1,128 +1,132 @@
-// update_reader, a move of a reader to another mark, and unregister_reader, the release of its slot. Both are turned away
-// from a slot of the registry of shared marks. The registry itself is not lent here: a caller says how many records it
-// has, and whether one of its first n is in use for the slot.
-ghost use Rattle.std.specs.Prelude.{◌≡◌, not, ◌&&◌, ◌||◌, [], ◌∷◌, eqb, set};
-ghost use Rattle.wal_types.specs.Store.{apply};
+// update_reader, a move of a reader to another mark, and unregister_reader, the release of its slot. Both are turned
+// away from a slot of the registry of shared marks.
+ghost use Rattle.std.specs.Prelude.{◌≡◌, suc, not, ◌&&◌, ◌||◌, [], ◌∷◌, eqb, get_or, set};
 ghost use Rattle.wal_types.specs.Settings.{is_fcntl};
 ghost use Rattle.reader_slots.specs.Slots.{empty_slot};
-ghost use Rattle.reader_slots.specs.Inner.{HoldSlot, SlotsBecome};
-ghost use Rattle.reader_moves.specs.Update.{update_reader, update_answer, MoveCall, unregister_reader, release_answer, ReleaseCall};
+ghost use Rattle.reader_slots.specs.Inner.{AllHold, HoldSlot, SlotsStored};
+ghost use Rattle.reader_moves.specs.Update.{update_reader, update_answer, MoveCall, unregister_reader, release_answer};
+ghost use Rattle.reader_moves.specs.Inner.{LentRelease};
 
 use reader_slots::slots;
-use reader_slots::slots::SlotLens;
+use reader_slots::slots::SharedSlots;
 use wal_types::refusal::Refusal;
+use wal_types::settings::{Reader, ReaderSettings};
 use wal_types::{SharedOwnerRecord, SharedWalOwnershipMode, UNOWNED_LOCK};
 
-// Moves a reader to another mark. The registry is not lent: the contract holds for every registry that has registry_len
-// records and, in its first n, one in use for the slot if in_registry says so, and only then. Of arguments that fit no
-// registry (in_registry with a registry_len of 0) it says nothing.
-#[tactic(auto, using(crate::proofs::Released::move_shared, crate::proofs::Released::move_done, crate::proofs::Released::move_stays), unfolding(crate::specs::Update::update_reader))]
+// What a caller says of the registry of shared marks, which is not lent here: how many records it has, and whether one
+// of its first n is in use for the slot. The contracts hold for every registry of which this is so. Where it is so of
+// none (is_shared with no records), they say nothing.
+#[derive(Clone, Copy)]
+pub struct SlotInRegistry {
+    pub records: usize,
+    pub is_shared: bool,
+}
+
+// Moves a reader to another mark.
+#[tactic(auto, unfolding(crate::specs::Update::update_reader))]
 pub fn update_core(
     n: usize,
     reader_frames: &mut [u64],
     reader_owners: &[u64],
     slot: usize,
-    owner: SharedOwnerRecord,
-    mark: u64,
-    in_registry: bool,
-    registry_len: usize,
+    reader: Reader,
+    registry: SlotInRegistry,
 ) -> Result<(), Refusal>
-    ensures { MoveCall n slot in_registry registry_len (update_reader n slot owner.0 mark) reader_frames.old reader_owners.now (update_answer slot owner.0 mark result) reader_frames.new }
+    ensures { MoveCall n slot registry.is_shared registry.records (update_reader n slot reader.owner.0 reader.mark) reader_frames.old reader_owners.now (update_answer slot reader.owner.0 reader.mark result) reader_frames.new }
 {
     if n < 1 || 256 < n {
         return Err(Refusal::Settings);
     }
-    if reader_frames.len() < n || reader_owners.len() < n || registry_len < n {
+    if reader_frames.len() < n || reader_owners.len() < n || registry.records < n {
         return Err(Refusal::ShortMemory);
     }
     if n <= slot {
         return Err(Refusal::SlotNumber);
     }
-    if owner.0 != reader_owners[slot] {
+    if reader.owner != SharedOwnerRecord(reader_owners[slot]) {
         return Err(Refusal::OtherOwner);
     }
-    slots::check_reader(owner, mark)?;
-    if in_registry {
+    slots::check_reader(reader)?;
+    if registry.is_shared {
         return Err(Refusal::SharedSlot);
     }
     // A reader that has the mark already is left as it is: no store.
-    if reader_frames[slot] != mark {
-        reader_frames[slot] = mark;
+    if reader_frames[slot] != reader.mark {
+        reader_frames[slot] = reader.mark;
     }
     Ok(())
 }
 
-// Whether a release is by another than the slot's owner. LinuxOfd does not compare the local one.
-pub fn by_other_owner(
-    mode: SharedWalOwnershipMode,
-    owner: SharedOwnerRecord,
-    shared_owner: SharedOwnerRecord,
-    local_owner: SharedOwnerRecord,
-) -> bool
-    ensures { result ≡ (not (eqb owner.0 shared_owner.0) || (is_fcntl mode && not (eqb owner.0 local_owner.0))) }
-{
-    owner != shared_owner || (mode.is_fcntl() && owner != local_owner)
+// The owners of a slot: the shared one, and this process's own.
+#[derive(Clone, Copy)]
+pub struct SlotOwners {
+    pub shared: SharedOwnerRecord,
+    pub local: SharedOwnerRecord,
+}
+
+impl SlotOwners {
+    pub fn of(slots: &SharedSlots<'_>, local_readers: &[u64], slot: usize) -> Self
+        requires { AllHold (suc slot) (slots.now.reader_owners.now ∷ local_readers.now ∷ []) }
+        ensures shared { result.shared.0 ≡ get_or slots.now.reader_owners.now slot 0 }
+        ensures local { result.local.0 ≡ get_or local_readers.now slot 0 }
+    {
+        SlotOwners {
+            shared: SharedOwnerRecord(slots.reader_owners[slot]),
+            local: SharedOwnerRecord(local_readers[slot]),
+        }
+    }
+
+    // Whether a release by the owner is by another than the slot's. LinuxOfd does not compare the local one.
+    pub fn differ_from(self, owner: SharedOwnerRecord, mode: SharedWalOwnershipMode) -> bool
+        ensures { result ≡ (not (eqb owner.0 self.shared.0) || (is_fcntl mode && not (eqb owner.0 self.local.0))) }
+    {
+        owner != self.shared || (mode.is_fcntl() && owner != self.local)
+    }
 }
 
 // Empties a slot that is held here.
 pub fn release_slot(
     mode: SharedWalOwnershipMode,
-    bitmap: &mut [u64],
-    reader_frames: &mut [u64],
-    reader_owners: &mut [u64],
+    slots: &mut SharedSlots<'_>,
     local_readers: &mut [u64],
     slot: usize,
 )
-    requires { HoldSlot slot bitmap.old (reader_frames.old ∷ reader_owners.old ∷ local_readers.old ∷ []) }
-    ensures { SlotsBecome (λ m p. apply (empty_slot mode slot m) m) bitmap.old reader_frames.old reader_owners.old local_readers.old bitmap.new reader_frames.new reader_owners.new × (local_readers.new ≡ set local_readers.old slot 0) }
+    requires { HoldSlot slot slots.old (local_readers.old ∷ []) }
+    ensures { SlotsStored (empty_slot mode slot) slots.old slots.new × (local_readers.new ≡ set local_readers.old slot 0) }
 {
-    slots::empty_slot(mode, bitmap, reader_frames, reader_owners, slot);
+    slots.empty_slot(mode, slot);
     local_readers[slot] = UNOWNED_LOCK;
 }
 
-// Releases a reader's slot. As in update_core, the contract holds for every registry that in_registry and registry_len
-// fit, and says nothing of arguments that fit none.
-#[tactic(auto, using(reader_slots::proofs::Calls::registry_enough, crate::proofs::Released::release_slot_number, crate::proofs::Released::release_not_held, crate::proofs::Released::release_other_owner, crate::proofs::Released::release_no_owner, crate::proofs::Released::release_shared))]
+// Releases a reader's slot.
+#[tactic(auto, using(reader_slots::proofs::Calls::registry_enough, crate::proofs::Released::release_other_owner, crate::proofs::Released::release_no_owner, crate::proofs::Released::release_shared))]
 pub fn unregister_core(
-    n: usize,
-    mode: SharedWalOwnershipMode,
-    bitmap: &mut [u64],
-    reader_frames: &mut [u64],
-    reader_owners: &mut [u64],
+    settings: ReaderSettings,
+    slots: &mut SharedSlots<'_>,
     local_readers: &mut [u64],
     slot: usize,
     owner: SharedOwnerRecord,
-    in_registry: bool,
-    registry_len: usize,
+    registry: SlotInRegistry,
 ) -> Result<(), Refusal>
-    ensures { ReleaseCall n slot in_registry registry_len (unregister_reader n mode slot owner.0) bitmap.old reader_frames.old reader_owners.old local_readers.old (release_answer result) bitmap.new reader_frames.new reader_owners.new local_readers.new }
+    ensures { LentRelease settings.n slot registry (unregister_reader settings.n settings.mode slot owner.0) slots.old local_readers.old (release_answer result) slots.new local_readers.new }
 {
-    let lens = SlotLens::of(bitmap, reader_frames, reader_owners, local_readers);
-    slots::check_registry(n, lens, registry_len)?;
-    if n <= slot {
+    slots::check_registry(settings.n, slots, local_readers, registry.records)?;
+    if settings.n <= slot {
         return Err(Refusal::SlotNumber);
     }
-    let shared_owner = SharedOwnerRecord(reader_owners[slot]);
-    let local_owner = SharedOwnerRecord(local_readers[slot]);
-    if local_owner.0 == UNOWNED_LOCK {
+    let owners = SlotOwners::of(slots, local_readers, slot);
+    if owners.local == SharedOwnerRecord::UNOWNED {
         return Err(Refusal::NotHeld);
     }
-    if by_other_owner(mode, owner, shared_owner, local_owner) {
+    if owners.differ_from(owner, settings.mode) {
         return Err(Refusal::OtherOwner);
     }
-    if owner.0 == UNOWNED_LOCK {
+    if owner == SharedOwnerRecord::UNOWNED {
         return Err(Refusal::NoOwner);
     }
-    if in_registry {
+    if registry.is_shared {
         return Err(Refusal::SharedSlot);
     }
-    release_slot(
-        mode,
-        bitmap,
-        reader_frames,
-        reader_owners,
-        local_readers,
-        slot,
-    );
+    release_slot(settings.mode, slots, local_readers, slot);
     Ok(())
 }

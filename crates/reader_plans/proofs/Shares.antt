@@ -9,6 +9,8 @@ use lib.ListN.{length, get_or}
 use Rattle.std.specs.Prelude.{Option, Some, None, is_some, is_none, Result, Ok, Err}
 use Rattle.wal_types.specs.declared.SharedReadMark.{SharedReadMark}
 use Rattle.wal_types.specs.declared.SharedWalOwnershipMode.{SharedWalOwnershipMode}
+use Rattle.wal_types.specs.declared.settings.ReaderSettings.{ReaderSettings}
+use Rattle.wal_types.specs.declared.settings.Reader.{Reader}
 use Rattle.wal_types.specs.Settings.{most_holders}
 use Rattle.wal_types.specs.Memory.{Memory, Process, no_mark, blank_memory, blank_process}
 use Rattle.wal_types.specs.declared.refusal.Refusal.{Refusal}
@@ -16,13 +18,16 @@ use Rattle.wal_types.specs.Refusal.{Test, ◌if◌, lowest, number}
 use Rattle.wal_types.specs.declared.refusal.Refusal.TheVariants.{RegistryFull}
 use Rattle.wal_types.specs.Call.{none, Done, after, done}
 use Rattle.wal_types.proofs.Refusals.{number_not_zero, call_turned_away, call_accepted}
-use Rattle.reader_slots.specs.Slots.{is_bad_card, slots_in}
-use Rattle.reader_slots.specs.Inner.{HoldSlots, lens_of, card_refusal, card_tests}
-use Rattle.reader_slots.proofs.Calls.{none_applies, lowest_first, lowest_rest, Enough}
-use Rattle.reader_slots.proofs.Card.{card_length}
+use Rattle.reader_slots.specs.declared.slots.SharedSlots.{SharedSlots}
+use Rattle.reader_slots.specs.Slots.{is_bad_card}
+use Rattle.reader_slots.specs.Inner.{available_by, lent_in, card_refusal, card_tests}
+use Rattle.reader_slots.specs.Search.{lowest_slot}
+use Rattle.reader_slots.proofs.Calls.{none_applies, lowest_first, lowest_rest, EnoughLent}
+use Rattle.reader_slots.proofs.Lent.{same_lent}
 use Rattle.reader_register.specs.Register.{slot_answer, chosen_slot}
-use Rattle.reader_register.specs.Inner.{chosen_by, RegistersCall}
-use Rattle.reader_register.proofs.Registered.{chosen_below, chosen_is, takes_none}
+use Rattle.reader_register.specs.Inner.{stale_by, chosen_by, RegistersCall}
+use Rattle.reader_register.proofs.Registered.{from_neither, chosen_below, chosen_is, takes_none}
+use Rattle.reader_marks.specs.declared.MarkInRegistry.{MarkInRegistry}
 use Rattle.reader_marks.specs.declared.Seen.{Seen}
 use Rattle.reader_marks.specs.declared.Seen.TheVariants.{Shared, New}
 use Rattle.reader_marks.specs.Registry.{record_of, empty_record}
@@ -34,24 +39,34 @@ use Rattle.reader_shared.proofs.Refused.{share_room}
 use Rattle.reader_plans.proofs.Seen.{placed, unplaced}
 
 -- the slot that is told is the one chosen
-told : (owner mark : ℕ) (c d : Option ℕ) → slot_answer owner mark c ≡ slot_answer owner mark d → c ≡ d
-told owner mark (Some i) (Some j) e = let z : i ≡ j = cc in rw z
-told owner mark (Some i) None e = cc
-told owner mark None (Some j) e = cc
-told owner mark None None e = refl
+same_slot : (owner mark : ℕ) (c d : Option ℕ) → slot_answer owner mark c ≡ slot_answer owner mark d → c ≡ d
+same_slot owner mark (Some i) (Some j) e = let z : i ≡ j = cc in rw z
+same_slot owner mark (Some i) None e = cc
+same_slot owner mark None (Some j) e = cc
+same_slot owner mark None None e = refl
 
--- where none of the refusals 1, 2, 9, 10 and 14 applies, each list has its cells
-pub enough : (n owner mark : ℕ) (bytes b f o l : List ℕ) (records : ℕ) → 0 ≡ share_refusal n (lens_of b f o l) records owner mark → 0 ≡ card_refusal n bytes → HoldSlots n b (f ∷ o ∷ l ∷ bytes ∷ [])
-unfolding card_refusal
-enough n owner mark bytes b f o l records fine card =
-    let h = (share_room n (lens_of b f o l) records owner mark fine).0 in
-    let c = card_length n bytes (none_applies (card_tests n bytes) (sym card)).0 in
-    (h.most, h.words_enough, (h.frames_enough, (h.owners_enough, (h.locals_enough, (omega arith, tt)))))
+module _ (settings : ReaderSettings) (reader : Reader) (bytes : List ℕ) (slots : SharedSlots) (l : List ℕ) (told : MarkInRegistry) where
+  abbrev n : ℕ
+  n = settings.n
 
-module _ (n : ℕ) (mode : SharedWalOwnershipMode) (owner mark : ℕ) (bytes b f o l : List ℕ) (records : ℕ) (seen : Seen) where
+  abbrev mode : SharedWalOwnershipMode
+  mode = settings.mode
+
+  abbrev owner : ℕ
+  owner = reader.owner.0
+
+  abbrev mark : ℕ
+  mark = reader.mark
+
+  abbrev records : ℕ
+  records = told.records
+
+  abbrev seen : Seen
+  seen = told.seen
+
   -- the call does what the plan says
-  abbrev Means : List ℕ → List ℕ → List ℕ → List ℕ → Result (Option SharePlan) Refusal → Type 0
-  Means b' f' o' l' plan = PlanCall n mark seen records (register_reader_for_snapshot n mode owner mark bytes) b f o l (share_answer plan) b' f' o' l' (share_change plan)
+  abbrev Means : SharedSlots → List ℕ → Result (Option SharePlan) Refusal → Type 0
+  Means slots' l' plan = PlanCall n mark told (register_reader_for_snapshot n mode owner mark bytes) slots l (share_answer plan) slots' l' (share_change plan)
 
   -- a registry that fits what was seen
   abbrev Fits : List SharedReadMark → Type 0
@@ -59,7 +74,7 @@ module _ (n : ℕ) (mode : SharedWalOwnershipMode) (owner mark : ℕ) (bytes b f
 
   -- a process and memory with these parts
   abbrev memory : Memory → Memory
-  memory z = slots_in z b f o
+  memory z = lent_in z slots
 
   abbrev process : Process → List SharedReadMark → Process
   process p r = registry_in p l r
@@ -71,23 +86,23 @@ module _ (n : ℕ) (mode : SharedWalOwnershipMode) (owner mark : ℕ) (bytes b f
   abbrev last_tests : Memory → Process → List SharedReadMark → List Test
   last_tests z p r = (RegistryFull if no_room n mode bytes (memory z) (process p r) (record_of n r mark)) ∷ card_tests n bytes
 
-  refused_as : (k : Refusal) → ((z : Memory) (p : Process) (r : List SharedReadMark) → Fits r → number_given z p r ≡ number k) → Means b f o l (Err k)
+  refused_as : (k : Refusal) → ((z : Memory) (p : Process) (r : List SharedReadMark) → Fits r → number_given z p r ≡ number k) → Means slots l (Err k)
   unfolding PlanCarried register_reader_for_snapshot
-  refused_as k h r s q z p =
-      call_turned_away (share_tests n mode owner mark bytes) (λ m p. shares n mode owner mark bytes (record_of n p.registry mark) m p) (memory z) (process p r) k (sym (h z p r (s, q)))
+  refused_as k h =
+      (same_lent slots, λ r s q z p. call_turned_away (share_tests n mode owner mark bytes) (λ m p. shares n mode owner mark bytes (record_of n p.registry mark) m p) (memory z) (process p r) k (sym (h z p r (s, q))))
 
   -- refusals 1, 2, 9 and 10
-  pub share_refused : (k : Refusal) → number k ≡ share_refusal n (lens_of b f o l) records owner mark → Means b f o l (Err k)
+  pub share_refused : (k : Refusal) → number k ≡ share_refusal n slots l records reader → Means slots l (Err k)
   unfolding share_refusal
-  share_refused k e = refused_as k (λ z p r s. lowest_first (four_tests n (lens_of b f o l) (length r) owner mark) (last_tests z p r) k (rw (← s.1) e))
+  share_refused k e = refused_as k (λ z p r s. lowest_first (four_tests n slots l (length r) reader) (last_tests z p r) k (rw (← s.1) e))
 
-  module _ (fine : 0 ≡ share_refusal n (lens_of b f o l) records owner mark) where
-    room : Enough n (lens_of b f o l) × (n ≤ records)
-    room = share_room n (lens_of b f o l) records owner mark fine
+  module _ (fine : 0 ≡ share_refusal n slots l records reader) where
+    room : EnoughLent n slots l × (n ≤ records)
+    room = share_room n slots l records reader fine
 
     later : (z : Memory) (p : Process) (r : List SharedReadMark) → records ≡ length r → number_given z p r ≡ lowest (last_tests z p r)
     unfolding share_refusal
-    later z p r q = lowest_rest (four_tests n (lens_of b f o l) (length r) owner mark) (last_tests z p r) (rw (← q) fine)
+    later z p r q = lowest_rest (four_tests n slots l (length r) reader) (last_tests z p r) (rw (← q) fine)
 
     -- the call that is not refused
     made : (z : Memory) (p : Process) (r : List SharedReadMark) → records ≡ length r → lowest (last_tests z p r) ≡ 0 →
@@ -107,27 +122,29 @@ module _ (n : ℕ) (mode : SharedWalOwnershipMode) (owner mark : ℕ) (bytes b f
       its_tests : (z : Memory) (p : Process) (r : List SharedReadMark) → Fits r → lowest (last_tests z p r) ≡ lowest (room_tests ++ card_tests n bytes)
       its_tests z p r s = rw ((here r s).0, (here r s).1)
 
-      pub joined_full : (k : Refusal) → number k ≡ room_refusal item → Means b f o l (Err k)
+      pub joined_full : (k : Refusal) → number k ≡ room_refusal item → Means slots l (Err k)
       joined_full k e = refused_as k (λ z p r s. later z p r s.1 ∙ (its_tests z p r s ∙ lowest_first room_tests (card_tests n bytes) k e))
 
       module _ (fits : 0 ≡ room_refusal item) where
-        pub joined_card : (k : Refusal) → number k ≡ card_refusal n bytes → Means b f o l (Err k)
+        pub joined_card : (k : Refusal) → number k ≡ card_refusal n bytes → Means slots l (Err k)
         unfolding card_refusal
         joined_card k e = refused_as k (λ z p r s. later z p r s.1 ∙ (its_tests z p r s ∙ (lowest_rest room_tests (card_tests n bytes) fits ∙ sym e)))
 
-        pub joined : 0 ≡ card_refusal n bytes → Means b f o l (Ok (Some (shares_joined place item mark)))
+        pub joined : 0 ≡ card_refusal n bytes → Means slots l (Ok (Some (shares_joined place item mark)))
         unfolding PlanCarried card_refusal
-        joined e r s q z p =
-            let below = (none_applies room_tests (sym fits)).0 in
-            made z p r q (its_tests z p r (s, q) ∙ (lowest_rest room_tests (card_tests n bytes) fits ∙ sym e))
-            ∙ rw ((here r (s, q)).0, (here r (s, q)).1, below)
+        joined e =
+            let below = (none_applies room_tests (sym fits)).0 in (
+              same_lent slots,
+              λ r s q z p. made z p r q (its_tests z p r (s, q) ∙ (lowest_rest room_tests (card_tests n bytes) fits ∙ sym e))
+                  ∙ rw ((here r (s, q)).0, (here r (s, q)).1, below),
+            )
 
     -- a new mark
     module _ (free : Option ℕ) (new : seen ≡ New free) where
       absent : (r : List SharedReadMark) → Fits r → (record_of n r mark ≡ None) × (empty_record n r ≡ free)
       absent r s = unplaced n r mark (let long = room.1 in let same = s.1 in omega arith) free (sym new ∙ s.0)
 
-      pub new_card : (k : Refusal) → number k ≡ card_refusal n bytes → Means b f o l (Err k)
+      pub new_card : (k : Refusal) → number k ≡ card_refusal n bytes → Means slots l (Err k)
       unfolding card_refusal
       new_card k e = refused_as k (λ z p r s. later z p r s.1 ∙ rw (absent r s).0 (go (is_bad_card n bytes) (is_some (chosen_slot n mode bytes (memory z) (process p r))) (is_none (empty_record n r)) e))
         where
@@ -141,45 +158,46 @@ module _ (n : ℕ) (mode : SharedWalOwnershipMode) (owner mark : ℕ) (bytes b f
         good = (none_applies (card_tests n bytes) (sym card)).0
 
         abbrev chosen : Option ℕ
-        chosen = chosen_by n mode bytes b o l
+        chosen = chosen_by settings bytes slots l
 
         chosen_here : (z : Memory) (p : Process) (r : List SharedReadMark) → chosen_slot n mode bytes (memory z) (process p r) ≡ chosen
-        chosen_here z p r = chosen_is n mode bytes b o l room.0.words_enough f z (process p r)
+        chosen_here z p r = chosen_is settings bytes slots l room.0.words_enough z (process p r)
 
         -- the call does what register_checked does, and publishes the record
-        module _ (taken : Option ℕ) (b' f' o' l' : List ℕ) (does : RegistersCall n mode owner mark bytes b f o l (slot_answer owner mark taken) b' f' o' l') where
+        module _ (taken : Option ℕ) (slots' : SharedSlots) (l' : List ℕ) (does : RegistersCall settings reader bytes slots l (slot_answer owner mark taken) slots' l') where
           chosen_taken : chosen ≡ taken
           unfolding RegistersCall
-          chosen_taken = told owner mark chosen taken (ap (slot_answer owner mark) (sym (chosen_here blank_memory blank_process [])) ∙ ap (λ (d : Done). d.answer) (does blank_memory (process blank_process [])))
+          chosen_taken = same_slot owner mark chosen taken (ap (slot_answer owner mark) (sym (chosen_here blank_memory blank_process [])) ∙ ap (λ (d : Done). d.answer) (does.1 blank_memory (process blank_process [])))
 
           does_both : (is_some taken && is_none free) ≡ false → (z : Memory) (p : Process) (r : List SharedReadMark) → Fits r →
-              after (register_reader_for_snapshot n mode owner mark bytes) (memory z) (process p r) ≡ done (slot_answer owner mark taken) (slots_in z b' f' o') (new_record owner mark taken free (registry_in p l' r))
+              after (register_reader_for_snapshot n mode owner mark bytes) (memory z) (process p r) ≡ done (slot_answer owner mark taken) (lent_in z slots') (new_record owner mark taken free (registry_in p l' r))
           unfolding RegistersCall
           does_both x z p r s =
-              let d = does z (process p r) in
+              let d = does.1 z (process p r) in
               made z p r s.1 (rw ((absent r s).0, good, chosen_here z p r, chosen_taken, (absent r s).1, x))
               ∙ rw ((absent r s).0, ap (λ (d : Done). d.memory) d, ap (λ (d : Done). d.process) d, chosen_here z p r, chosen_taken, (absent r s).1)
 
-        nothing : (b' f' o' l' : List ℕ) → RegistersCall n mode owner mark bytes b f o l none b' f' o' l' → Means b' f' o' l' (Ok None)
-        unfolding PlanCarried
-        nothing b' f' o' l' does r s q z p = does_both None b' f' o' l' does refl z p r (s, q)
+        nothing : (slots' : SharedSlots) (l' : List ℕ) → RegistersCall settings reader bytes slots l none slots' l' → Means slots' l' (Ok None)
+        unfolding PlanCarried RegistersCall
+        nothing slots' l' does = (does.0, λ r s q z p. does_both None slots' l' does refl z p r (s, q))
 
         -- no record is empty: the call is refused if a slot could be taken
-        pub without_record : free ≡ None → (takes : Bool) → takes ≡ is_some chosen → (plan : Result (Option SharePlan) Refusal) → plan ≡ cond takes (Err RegistryFull) (Ok None) → Means b f o l plan
+        pub without_record : free ≡ None → (takes : Bool) → takes ≡ is_some chosen → (plan : Result (Option SharePlan) Refusal) → plan ≡ cond takes (Err RegistryFull) (Ok None) → Means slots l plan
+        unfolding chosen_by
         without_record none_empty takes t plan e = rw (e, t) (go chosen refl)
           where
-            go : (c : Option ℕ) → chosen ≡ c → Means b f o l (cond (is_some c) (Err RegistryFull) (Ok None))
+            go : (c : Option ℕ) → chosen ≡ c → Means slots l (cond (is_some c) (Err RegistryFull) (Ok None))
             go (Some i) x = refused_as RegistryFull (λ z p r s. later z p r s.1 ∙ rw ((absent r s).0, good, chosen_here z p r, x, (absent r s).1, none_empty))
-            go None x = nothing b f o l (takes_none n mode owner mark bytes b f o l room.0.words_enough x)
+            go None x = let q = from_neither (lowest_slot (available_by slots.bitmap.now l bytes) n 0) (lowest_slot (stale_by mode bytes slots l) n 0) x in nothing slots l (takes_none settings reader bytes slots l room.0.words_enough q.0 q.1)
 
         -- register_checked has answered
-        module _ (taken : Option ℕ) (b' f' o' l' : List ℕ) (does : RegistersCall n mode owner mark bytes b f o l (slot_answer owner mark taken) b' f' o' l') where
-          pub none_taken : taken ≡ None → Means b' f' o' l' (Ok None)
-          none_taken x = nothing b' f' o' l' (rw x at does)
+        module _ (taken : Option ℕ) (slots' : SharedSlots) (l' : List ℕ) (does : RegistersCall settings reader bytes slots l (slot_answer owner mark taken) slots' l') where
+          pub none_taken : taken ≡ None → Means slots' l' (Ok None)
+          none_taken x = nothing slots' l' (rw x at does)
 
           pub slot_fits : (slot : ℕ) → taken ≡ Some slot → slot < 2 ^ 32
-          slot_fits slot x = let small = chosen_below n mode bytes b o l slot (chosen_taken taken b' f' o' l' does ∙ x) in let most = room.0.most in omega arith
+          slot_fits slot x = let small = chosen_below settings bytes slots l slot (chosen_taken taken slots' l' does ∙ x) in let most = room.0.most in omega arith
 
-          pub published : (slot : ℕ) → taken ≡ Some slot → (place : ℕ) → free ≡ Some place → Means b' f' o' l' (Ok (Some (shares_published place slot (record { 0 = owner }) mark)))
-          unfolding PlanCarried
-          published slot x place e r s q z p = does_both (Some slot) b' f' o' l' (rw x at does) (rw e) z p r (s, q) ∙ rw e
+          pub published : (slot : ℕ) → taken ≡ Some slot → (place : ℕ) → free ≡ Some place → Means slots' l' (Ok (Some (shares_published place slot reader)))
+          unfolding PlanCarried RegistersCall
+          published slot x place e = (does.0, λ r s q z p. does_both (Some slot) slots' l' (rw x at does) (rw e) z p r (s, q) ∙ rw e)

@@ -1,18 +1,18 @@
 // One slot, as the floor, the copy-back limit and has_active_db_file_reader meet it: skipped, live, or dead and then
 // reclaimed.
-ghost use Rattle.std.specs.Prelude.{◌≡◌, [], ◌∷◌, get_or};
+ghost use Rattle.std.specs.Prelude.{◌≡◌, not, ◌||◌, [], ◌∷◌, eqb, get_or};
 ghost use Rattle.reader_slots.specs.Inner.{HoldSlot, emptied_if, SlotsBecome};
 ghost use Rattle.reader_probe.specs.Live.{dead};
 ghost use Rattle.reader_probe.specs.Inner.{skipped_cell, live_by, live_frame, marks_with};
 
-use reader_slots::slots;
+use reader_slots::slots::SharedSlots;
+use reader_slots::{available, slots};
 use wal_types::{
-    DB_FILE_READER_FRAME, SharedOwnerRecord, SharedWalOwnershipMode, UNOWNED_LOCK,
-    UNUSED_READER_FRAME,
+    DB_FILE_READER_FRAME, SharedOwnerRecord, SharedWalOwnershipMode, UNUSED_READER_FRAME,
 };
 
-// What the marks of live slots come to: the floor, which is the least one above 0 if there is one, and whether one of them
-// is 0.
+// What the marks of live slots come to: the floor, which is the least one above 0 if there is one, and whether one of
+// them is 0.
 #[derive(Clone, Copy)]
 pub struct LiveMarks {
     pub floor: Option<u64>,
@@ -26,27 +26,33 @@ pub fn is_skipped(mode: SharedWalOwnershipMode, frame: u64, owner: SharedOwnerRe
     frame == UNUSED_READER_FRAME || slots::is_ownerless(mode, owner)
 }
 
+// Whether the reader of a slot is live: the slot is held here, or its byte lock is not granted. A dead reader's slot can
+// be locked.
+pub fn is_live(local_owner: SharedOwnerRecord, card: u8) -> bool
+    ensures { result ≡ (not (eqb local_owner.0 0) || not (eqb card 1)) }
+{
+    !available::can_lock(local_owner, card)
+}
+
 // One slot's mark if the slot is live. A dead slot is reclaimed.
 pub fn live_reader_frame(
     mode: SharedWalOwnershipMode,
-    bitmap: &mut [u64],
-    reader_frames: &mut [u64],
-    reader_owners: &mut [u64],
+    slots: &mut SharedSlots<'_>,
     local_readers: &[u64],
     card: &[u8],
     slot: usize,
 ) -> Option<u64>
-    requires { HoldSlot slot bitmap.old (reader_frames.old ∷ reader_owners.old ∷ local_readers.now ∷ card.now ∷ []) }
-    ensures { (result ≡ live_frame (live_by mode card.now reader_frames.old reader_owners.old local_readers.now slot) (get_or reader_frames.old slot 0)) × SlotsBecome (λ m p. emptied_if mode (dead mode card.now p m slot) slot m) bitmap.old reader_frames.old reader_owners.old local_readers.now bitmap.new reader_frames.new reader_owners.new }
+    requires { HoldSlot slot slots.old (local_readers.now ∷ card.now ∷ []) }
+    ensures { (result ≡ live_frame (live_by mode card.now slots.old local_readers.now slot) (get_or slots.old.reader_frames.now slot 0)) × SlotsBecome (λ m p. emptied_if mode (dead mode card.now p m slot) slot m) slots.old local_readers.now slots.new }
 {
-    let frame = reader_frames[slot];
-    if is_skipped(mode, frame, SharedOwnerRecord(reader_owners[slot])) {
+    let frame = slots.reader_frames[slot];
+    if is_skipped(mode, frame, SharedOwnerRecord(slots.reader_owners[slot])) {
         return None;
     }
-    if local_readers[slot] != UNOWNED_LOCK || card[slot] != 1 {
+    if is_live(SharedOwnerRecord(local_readers[slot]), card[slot]) {
         return Some(frame);
     }
-    slots::empty_slot(mode, bitmap, reader_frames, reader_owners, slot);
+    slots.empty_slot(mode, slot);
     None
 }
 

@@ -22,7 +22,7 @@ use Rattle.word_bits.proofs.Bits.{clear_same}
 use Rattle.std.specs.Prelude.{Option, Some, None}
 use Rattle.reader_slots.specs.Slots.{held, is_free, granted, take_slot, empty_slot, empty_slots}
 use Rattle.reader_register.specs.Register.{available, take_found, slot_answer, hold_found, first_slot, second_slot, chosen_slot, reclaim_all, reclaimable, reclaim_unless, registers, register_tests, register_reader}
-use Rattle.reader_slots.specs.Inner.{lens_of, emptied_if}
+use Rattle.reader_slots.specs.Inner.{emptied_if}
 use Rattle.wal_types.proofs.Stores.{apply_append}
 use Rattle.wal_types.proofs.Refusals.{call_refused, call_accepted}
 use Rattle.reader_slots.proofs.Calls.{none_applies, Enough, enough_by}
@@ -108,10 +108,10 @@ module _ (n : ℕ) (mode : SharedWalOwnershipMode) (owner mark : ℕ) (bytes : L
       go None = all_emptied_lengths mode (reclaimable mode bytes p) n 0 m
 
   -- an accepted call has its cells
-  pub room : number_given ≡ 0 → Enough n (lens_of m.bitmap m.reader_frames m.reader_owners p.local_readers)
+  pub room : number_given ≡ 0 → Enough n m.bitmap m.reader_frames m.reader_owners p.local_readers
   room x =
       let t = none_applies (register_tests n owner mark bytes m p) x in
-      enough_by n (lens_of m.bitmap m.reader_frames m.reader_owners p.local_readers) t.0 t.1.0
+      enough_by n m.bitmap m.reader_frames m.reader_owners p.local_readers t.0 t.1.0
 
   -- a slot that is answered
   took : (x : number_given ≡ 0) (i : ℕ) → chosen ≡ Some i → TookSlot n owner mark i p (apply (take_slot i owner mark reclaimed) reclaimed) (hold_found owner p (Some i))

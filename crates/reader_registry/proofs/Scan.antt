@@ -11,12 +11,10 @@ use Rattle.std.proofs.lemmas.Option.{none-some}
 use native.Mathlib.Decide.{dec_le}
 use Rattle.wal_types.specs.declared.SharedReadMark.{SharedReadMark}
 use Rattle.wal_types.specs.Memory.{no_mark}
-use Rattle.reader_marks.specs.declared.Wanted.{Wanted}
-use Rattle.reader_marks.specs.declared.Wanted.TheVariants.{Mark, Slot, Empty}
 use Rattle.reader_marks.specs.declared.Seen.TheVariants.{Shared, New}
 use Rattle.reader_slots.specs.Slots.{is_in_registry}
-use Rattle.reader_marks.specs.Registry.{is_empty, first_record, record_of}
-use Rattle.reader_marks.specs.InnerScan.{picks, wants_use, eight_empty, seen_of}
+use Rattle.reader_marks.specs.Registry.{is_empty, fits, first_record, record_of}
+use Rattle.reader_marks.specs.InnerScan.{used, eight_empty, seen_of}
 
 both_true : (a b : Bool) → (a && b) ≡ true → (a ≡ true) × (b ≡ true)
 both_true true b e = (refl, e)
@@ -55,39 +53,28 @@ module _ (test : SharedReadMark → Bool) where
   in_part : (i : ℕ) (xs : List SharedReadMark) → position_from test i xs ≡ option_map (λ j. i + j) (position test xs)
   in_part i xs = let e : i + 0 ≡ i = omega arith in let z = shifted i 0 xs in rw e at z ∙ ap (option_map (λ (j : ℕ). i + j)) (sym (position_from-zero test xs))
 
--- where no record is in use, none is wanted
-none_wanted : (wanted : Wanted) (xs : List SharedReadMark) (i : ℕ) → wants_use wanted ≡ true → list_all is_empty xs ≡ true → position_from (picks wanted) i xs ≡ None
-unfolding picks
-none_wanted wanted [] i u e = refl
-none_wanted (Mark k) (x ∷ xs) i u e = let b = both_true (is_empty x) (list_all is_empty xs) e in rw (b.0, none_wanted (Mark k) xs (i + 1) u b.1)
-none_wanted (Slot k) (x ∷ xs) i u e = let b = both_true (is_empty x) (list_all is_empty xs) e in rw (b.0, none_wanted (Slot k) xs (i + 1) u b.1)
-none_wanted Empty (x ∷ xs) i u e = absurd (false≢true u)
+-- where no record is in use, none is found
+none_used : (test : SharedReadMark → Bool) (xs : List SharedReadMark) (i : ℕ) → list_all is_empty xs ≡ true → position_from (used test) i xs ≡ None
+none_used test [] i e = refl
+none_used test (x ∷ xs) i e = let b = both_true (is_empty x) (list_all is_empty xs) e in rw (b.0, none_used test xs (i + 1) b.1)
 
 -- a scan in parts of eight records
-module _ (wanted : Wanted) (records : List SharedReadMark) where
+module _ (test : SharedReadMark → Bool) (records : List SharedReadMark) where
   -- what the records from the k-th part on answer
   abbrev pub rest_answers : ℕ → List SharedReadMark → Option ℕ
-  rest_answers k rest = position_from (picks wanted) (k * 8) rest
+  rest_answers k rest = position_from (used test) (k * 8) rest
 
   -- the first part is the start of all records
-  pub start : position_from (picks wanted) 0 records ≡ position (picks wanted) records
-  start = sym (position_from-zero (picks wanted) records)
+  pub start : position_from (used test) 0 records ≡ position (used test) records
+  start = sym (position_from-zero (used test) records)
 
-  module _ (k : ℕ) (rest : List SharedReadMark) (so_far : rest_answers k rest ≡ position (picks wanted) records) where
-    -- no part is left
-    pub over : length rest ≡ 0 → None ≡ position (picks wanted) records
-    over e = sym (nothing rest e) ∙ so_far
-      where
-        nothing : (xs : List SharedReadMark) → length xs ≡ 0 → position_from (picks wanted) (k * 8) xs ≡ None
-        nothing [] l = refl
-        nothing (x ∷ xs) l = absurd (omega arith)
-
+  module _ (k : ℕ) (rest : List SharedReadMark) (so_far : rest_answers k rest ≡ position (used test) records) where
     -- the k-th part, and those after it
     module _ (part rest' : List SharedReadMark) (split : rest ≡ part ++ rest') (long : length part ≡ min 8 (length rest)) where
-      turn : rest_answers k rest ≡ option_or (position_from (picks wanted) (k * 8) part) (rest_answers (k + 1) rest')
-      turn = ap (position_from (picks wanted) (k * 8)) split ∙ (appended (picks wanted) (k * 8) part rest' ∙ go rest' split)
+      turn : rest_answers k rest ≡ option_or (position_from (used test) (k * 8) part) (rest_answers (k + 1) rest')
+      turn = ap (position_from (used test) (k * 8)) split ∙ (appended (used test) (k * 8) part rest' ∙ go rest' split)
         where
-          go : (left : List SharedReadMark) → rest ≡ part ++ left → option_or (position_from (picks wanted) (k * 8) part) (position_from (picks wanted) (k * 8 + length part) left) ≡ option_or (position_from (picks wanted) (k * 8) part) (rest_answers (k + 1) left)
+          go : (left : List SharedReadMark) → rest ≡ part ++ left → option_or (position_from (used test) (k * 8) part) (position_from (used test) (k * 8 + length part) left) ≡ option_or (position_from (used test) (k * 8) part) (rest_answers (k + 1) left)
           go [] e = refl
           go (x ∷ xs) e =
               let all : length rest ≡ length part + suc (length xs) = ap length e ∙ length-append part (x ∷ xs) in
@@ -95,19 +82,19 @@ module _ (wanted : Wanted) (records : List SharedReadMark) where
               rw next
 
       -- by what the part answers
-      by_part : (r : Option ℕ) → r ≡ position (picks wanted) part → rest_answers k rest ≡ option_or (option_map (λ j. k * 8 + j) r) (rest_answers (k + 1) rest')
-      by_part r e = turn ∙ ap (λ (o : Option ℕ). option_or o (rest_answers (k + 1) rest')) (in_part (picks wanted) (k * 8) part ∙ ap (option_map (λ (j : ℕ). k * 8 + j)) (sym e))
+      by_part : (r : Option ℕ) → r ≡ position (used test) part → rest_answers k rest ≡ option_or (option_map (λ j. k * 8 + j) r) (rest_answers (k + 1) rest')
+      by_part r e = turn ∙ ap (λ (o : Option ℕ). option_or o (rest_answers (k + 1) rest')) (in_part (used test) (k * 8) part ∙ ap (option_map (λ (j : ℕ). k * 8 + j)) (sym e))
 
-      pub turn_found : (r : Option ℕ) → r ≡ position (picks wanted) part → (i : ℕ) → r ≡ Some i → Some (k * 8 + i) ≡ position (picks wanted) records
+      pub turn_found : (r : Option ℕ) → r ≡ position (used test) part → (i : ℕ) → r ≡ Some i → Some (k * 8 + i) ≡ position (used test) records
       turn_found r e i f = sym (let z = by_part r e in rw f at z) ∙ so_far
 
-      pub turn_none : (r : Option ℕ) → r ≡ position (picks wanted) part → r ≡ None → rest_answers (k + 1) rest' ≡ position (picks wanted) records
+      pub turn_none : (r : Option ℕ) → r ≡ position (used test) part → r ≡ None → rest_answers (k + 1) rest' ≡ position (used test) records
       turn_none r e f = sym (let z = by_part r e in rw f at z) ∙ so_far
 
-      pub turn_passed : wants_use wanted ≡ true → eight_empty part ≡ true → rest_answers (k + 1) rest' ≡ position (picks wanted) records
-      turn_passed u p =
+      pub turn_passed : eight_empty part ≡ true → rest_answers (k + 1) rest' ≡ position (used test) records
+      turn_passed p =
           let e = (both_true (eqb (length part) 8) (list_all is_empty part) p).1 in
-          sym (turn ∙ ap (λ (o : Option ℕ). option_or o (rest_answers (k + 1) rest')) (none_wanted wanted part (k * 8) u e)) ∙ so_far
+          sym (turn ∙ ap (λ (o : Option ℕ). option_or o (rest_answers (k + 1) rest')) (none_used test part (k * 8) e)) ∙ so_far
 
 -- a record found lies among those looked at
 pub found_below : (test : SharedReadMark → Bool) (registry : List SharedReadMark) (left i k : ℕ) → first_record test registry left i ≡ Some k → k < i + left
@@ -120,19 +107,17 @@ found_below test registry (suc left) i k e = go (test (get_or registry i no_mark
     go false x ih = let z = ih x in omega arith
 
 -- what is seen, by what the scan for the mark told, and that for an empty record where it found none
-module _ (registry : List SharedReadMark) (n mark : ℕ) (records : List SharedReadMark) (first : records ≡ take (min n (length registry)) registry) (found : Option ℕ) (e : found ≡ position (picks (Mark mark)) records) where
+module _ (registry : List SharedReadMark) (n mark : ℕ) (records : List SharedReadMark) (first : records ≡ take (min n (length registry)) registry) (found : Option ℕ) (e : found ≡ position (fits mark) records) where
   abbrev pub end : ℕ
   end = min n (length registry)
 
   record_told : found ≡ record_of end registry mark
-  unfolding picks
-  record_told = e ∙ (ap (position (picks (Mark mark))) first ∙ scanned (picks (Mark mark)) registry end (omega arith))
+  record_told = e ∙ (ap (position (fits mark)) first ∙ scanned (fits mark) registry end (omega arith))
 
   -- its place is one of the records
   pub place_below : (place : ℕ) → found ≡ Some place → place < length records
-  unfolding picks
   place_below place f =
-      let below = found_below (picks (Mark mark)) registry end 0 place (sym record_told ∙ f) in
+      let below = found_below (fits mark) registry end 0 place (sym record_told ∙ f) in
       let long : length records ≡ end = rw (first, length-take-le end registry (omega arith)) in
       omega arith
 
@@ -144,8 +129,8 @@ module _ (registry : List SharedReadMark) (n mark : ℕ) (records : List SharedR
       let within : place < end = omega arith in
       rw (sym record_told ∙ f, first, get_or-take end registry place no_mark within)
 
-  pub seen_new : found ≡ None → (free : Option ℕ) → free ≡ position (picks Empty) records → New free ≡ seen_of end registry mark
-  unfolding picks seen_of
+  pub seen_new : found ≡ None → (free : Option ℕ) → free ≡ position is_empty records → New free ≡ seen_of end registry mark
+  unfolding seen_of
   seen_new f free g = rw (sym record_told ∙ f, g, first, scanned is_empty registry end (omega arith))
 
 -- A SLOT THAT IS SHARED
@@ -165,10 +150,10 @@ last_record test registry (suc left) i =
     go true more rest h = refl
     go false more rest h = h
 
-shared_among : (registry : List SharedReadMark) (slot n : ℕ) → is_some (first_record (picks (Slot slot)) registry n 0) ≡ is_in_registry n registry slot
-unfolding is_in_registry first_record picks
+shared_among : (registry : List SharedReadMark) (slot n : ℕ) → is_some (first_record (used (λ r. eqb r.slot slot)) registry n 0) ≡ is_in_registry n registry slot
+unfolding is_in_registry first_record
 shared_among registry slot zero = refl
-shared_among registry slot (suc n) = let e : 0 + n ≡ n = omega arith in last_record (picks (Slot slot)) registry n 0 ∙ rw (e, shared_among registry slot n)
+shared_among registry slot (suc n) = let e : 0 + n ≡ n = omega arith in last_record (used (λ r. eqb r.slot slot)) registry n 0 ∙ rw (e, shared_among registry slot n)
 
 or_false : (a : Bool) → (a || false) ≡ a
 or_false true = refl
@@ -188,8 +173,8 @@ shared_all registry slot (suc n) = go (shared_all registry slot n) (dec_le (suc 
     go ih (no f) = let e : min (suc n) (length registry) ≡ min n (length registry) = omega arith in rw e (ih ∙ sym (past_end registry slot n (omega arith)))
 
 -- a scan for a slot tells whether one of the first n records is in use for it
-pub slot_told : (registry : List SharedReadMark) (n slot : ℕ) (records : List SharedReadMark) → records ≡ take (min n (length registry)) registry → is_some (position (picks (Slot slot)) records) ≡ is_in_registry n registry slot
+pub slot_told : (registry : List SharedReadMark) (n slot : ℕ) (records : List SharedReadMark) → records ≡ take (min n (length registry)) registry → is_some (position (used (λ r. eqb r.slot slot)) records) ≡ is_in_registry n registry slot
 slot_told registry n slot records first =
     let end = min n (length registry) in
-    ap (λ (r : List SharedReadMark). is_some (position (picks (Slot slot)) r)) first
-    ∙ (ap is_some (scanned (picks (Slot slot)) registry (min n (length registry)) (omega arith)) ∙ (shared_among registry slot (min n (length registry)) ∙ shared_all registry slot n))
+    ap (λ (r : List SharedReadMark). is_some (position (used (λ r. eqb r.slot slot)) r)) first
+    ∙ (ap is_some (scanned (used (λ r. eqb r.slot slot)) registry (min n (length registry)) (omega arith)) ∙ (shared_among registry slot (min n (length registry)) ∙ shared_all registry slot n))

@@ -101,7 +101,7 @@ unregister_reader_for_snapshot n mode mark slot owner =
 
 -- what the answer of a shared registration tells, and that of a shared release
 abbrev pub share_answer : Result (Option SharePlan) Refusal → Answer
-share_answer (Ok (Some plan)) = slot_taken plan.taken.slot plan.taken.owner.0 plan.taken.mark
+share_answer (Ok (Some plan)) = slot_taken plan.taken.slot plan.taken.reader.owner.0 plan.taken.reader.mark
 share_answer (Ok None) = none
 share_answer (Err r) = refused (number r)
 

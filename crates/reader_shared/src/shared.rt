@@ -2,22 +2,15 @@
 ghost use Rattle.std.specs.Prelude.{◌≡◌, ◌&&◌, ◌^◌, ◌<◌, eqb, cond, Ok, Err, None};
 ghost use Rattle.wal_types.specs.Refusal.{refused_number};
 ghost use Rattle.wal_types.specs.declared.refusal.Refusal.TheVariants.{RegistryFull};
-ghost use Rattle.reader_shared.specs.Inner.{shares_joined, shares_published, room_refusal, share_refusal, last_refusal, mark_refusal, unshare_refusal};
+ghost use Rattle.reader_shared.specs.Inner.{release_of, frees, shares_joined, shares_published, room_refusal, share_refusal, last_refusal, mark_refusal, unshare_refusal};
 
-use reader_marks::MOST_HOLDERS;
-use reader_moves::update;
+use reader_marks::{MOST_HOLDERS, SharedSlot};
+use reader_moves::update::SlotOwners;
 use reader_slots::slots;
-use reader_slots::slots::SlotLens;
+use reader_slots::slots::SharedSlots;
 use wal_types::refusal::Refusal;
-use wal_types::{SharedOwnerRecord, SharedReadMark, SharedWalOwnershipMode, UNOWNED_LOCK};
-
-// A reader's slot at a mark that connections share, with its owner, who is the first holder.
-#[derive(Clone, Copy)]
-pub struct SharedSlot {
-    pub slot: u32,
-    pub owner: SharedOwnerRecord,
-    pub mark: u64,
-}
+use wal_types::settings::Reader;
+use wal_types::{SharedOwnerRecord, SharedReadMark, SharedWalOwnershipMode};
 
 // What a registration that takes a slot does to one record of the registry: it retains the mark's, in this place, or publishes
 // the mark in this empty place.
@@ -34,6 +27,15 @@ pub struct SharePlan {
     pub change: RecordChange,
 }
 
+// A release of a reader whose mark has a record: its slot and owner are not the record's, other holders are left, or it is that
+// of the last one, which frees the slot.
+#[derive(Clone, Copy)]
+pub enum Release {
+    Unregistered,
+    Shared,
+    Last,
+}
+
 // A mark that has the record item, in this place: it is retained.
 pub fn share_joined(place: usize, item: SharedReadMark, mark: u64) -> SharePlan
     ensures { result ≡ shares_joined place item mark }
@@ -41,23 +43,24 @@ pub fn share_joined(place: usize, item: SharedReadMark, mark: u64) -> SharePlan
     SharePlan {
         taken: SharedSlot {
             slot: item.slot,
-            owner: item.owner,
-            mark,
+            reader: Reader {
+                owner: item.owner,
+                mark,
+            },
         },
         change: RecordChange::Retained(place),
     }
 }
 
 // A new mark in a slot just taken: a record is published for it, in the empty place free.
-pub fn share_published(free: usize, slot: usize, owner: SharedOwnerRecord, mark: u64) -> SharePlan
+pub fn share_published(free: usize, slot: usize, reader: Reader) -> SharePlan
     requires { slot < 2 ^ 32 }
-    ensures { result ≡ shares_published free slot owner mark }
+    ensures { result ≡ shares_published free slot reader }
 {
     SharePlan {
         taken: SharedSlot {
             slot: slot as u32,
-            owner,
-            mark,
+            reader,
         },
         change: RecordChange::Published(free),
     }
@@ -83,62 +86,72 @@ pub fn check_room(item: SharedReadMark) -> Result<(), Refusal>
     Ok(())
 }
 
-// Refusal 1, 2, 9 or 10, by the lengths of the lent parts, the owner and the mark.
+// Refusal 1, 2, 9 or 10, by the lengths of the lent lists and the reader.
 #[tactic(auto, using(crate::proofs::Refused::share_early, crate::proofs::Refused::share_late))]
 pub fn check_share(
     n: usize,
-    lens: SlotLens,
+    slots: &SharedSlots<'_>,
+    local_readers: &[u64],
     records: usize,
-    owner: SharedOwnerRecord,
-    mark: u64,
+    reader: Reader,
 ) -> Result<(), Refusal>
-    ensures { refused_number result ≡ share_refusal n lens records owner.0 mark }
+    ensures { refused_number result ≡ share_refusal n slots.now local_readers.now records reader }
 {
-    slots::check_registry(n, lens, records)?;
-    slots::check_reader(owner, mark)
+    slots::check_registry(n, slots, local_readers, records)?;
+    slots::check_reader(reader)
 }
 
-// Whether the mark's record is the slot's and the owner's.
-pub fn is_registered(item: SharedReadMark, slot: usize, owner: SharedOwnerRecord) -> bool
-    ensures { result ≡ (eqb item.slot slot && eqb item.owner.0 owner.0) }
-{
-    item.slot as usize == slot && item.owner == owner
+impl Release {
+    // By the mark's record.
+    pub fn of(item: SharedReadMark, slot: usize, owner: SharedOwnerRecord) -> Self
+        ensures { result ≡ release_of item slot owner.0 }
+    {
+        if item.slot as usize != slot || item.owner != owner {
+            return Release::Unregistered;
+        }
+        if item.holders == 1 {
+            return Release::Last;
+        }
+        Release::Shared
+    }
+
+    // Whether it frees the slot.
+    pub fn frees(self) -> bool
+        ensures { result ≡ frees self }
+    {
+        matches!(self, Release::Last)
+    }
 }
 
-// Whether a release frees the slot: it is that of the record's last holder.
-pub fn frees_slot(registered: bool, item: SharedReadMark) -> bool
-    ensures { result ≡ (registered && eqb item.holders 1) }
-{
-    registered && item.holders == 1
-}
-
-// Refusal 7 or 8 of a release that frees the slot, by the slot's shared and local owners.
+// Refusal 7 or 8 of a release that frees the slot, by the slot's owners.
 #[tactic(auto, unfolding(crate::specs::Inner::last_refusal))]
 fn check_last(
     mode: SharedWalOwnershipMode,
-    frees: bool,
+    release: Release,
     owner: SharedOwnerRecord,
-    shared_owner: SharedOwnerRecord,
-    local_owner: SharedOwnerRecord,
+    owners: SlotOwners,
 ) -> Result<(), Refusal>
-    ensures { refused_number result ≡ last_refusal mode frees owner.0 shared_owner.0 local_owner.0 }
+    ensures { refused_number result ≡ last_refusal mode release owner.0 owners.shared.0 owners.local.0 }
 {
-    if frees && local_owner.0 == UNOWNED_LOCK {
+    if !release.frees() {
+        return Ok(());
+    }
+    if owners.local == SharedOwnerRecord::UNOWNED {
         return Err(Refusal::NotHeld);
     }
-    if frees && update::by_other_owner(mode, owner, shared_owner, local_owner) {
+    if owners.differ_from(owner, mode) {
         return Err(Refusal::OtherOwner);
     }
     Ok(())
 }
 
-// Refusal 9, 10 or 12, by the owner, the mark and whether both are registered.
+// Refusal 9, 10 or 12 of a release.
 #[tactic(auto, using(crate::proofs::Refused::mark_early, crate::proofs::Refused::mark_unknown, crate::proofs::Refused::mark_known))]
-fn check_mark(owner: SharedOwnerRecord, mark: u64, registered: bool) -> Result<(), Refusal>
-    ensures { refused_number result ≡ mark_refusal owner.0 mark registered }
+fn check_mark(reader: Reader, release: Release) -> Result<(), Refusal>
+    ensures { refused_number result ≡ mark_refusal reader.owner.0 reader.mark release }
 {
-    slots::check_reader(owner, mark)?;
-    if !registered {
+    slots::check_reader(reader)?;
+    if let Release::Unregistered = release {
         return Err(Refusal::NoSuchMark);
     }
     Ok(())
@@ -148,15 +161,12 @@ fn check_mark(owner: SharedOwnerRecord, mark: u64, registered: bool) -> Result<(
 #[tactic(auto, using(crate::proofs::Refused::unshare_early, crate::proofs::Refused::unshare_late))]
 pub fn check_unshare(
     mode: SharedWalOwnershipMode,
-    registered: bool,
-    frees: bool,
-    owner: SharedOwnerRecord,
-    mark: u64,
-    shared_owner: SharedOwnerRecord,
-    local_owner: SharedOwnerRecord,
+    release: Release,
+    reader: Reader,
+    owners: SlotOwners,
 ) -> Result<(), Refusal>
-    ensures { refused_number result ≡ unshare_refusal mode registered frees owner.0 mark shared_owner.0 local_owner.0 }
+    ensures { refused_number result ≡ unshare_refusal mode release reader.owner.0 reader.mark owners.shared.0 owners.local.0 }
 {
-    check_last(mode, frees, owner, shared_owner, local_owner)?;
-    check_mark(owner, mark, registered)
+    check_last(mode, release, reader.owner, owners)?;
+    check_mark(reader, release)
 }

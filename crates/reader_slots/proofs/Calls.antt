@@ -4,12 +4,14 @@ use mathlib.Core.Bool.{Bool, true, false, false≢true, not, cond, ◌&&◌, ◌
 use mathlib.Core.List.{List, [], ◌∷◌, ◌++◌}
 use Prim.Native.Nat.{ℕ, ◌+◌, ◌/◌, ◌<◌, ◌≤◌}
 use lib.Dec.{leb, ltb}
+use lib.ListN.{length}
 use borrow.Author.Tests.{leb-true, ltb-false, lt-ltb, le-ltb}
 use Rattle.wal_types.specs.Settings.{slots_in_limits, words_for}
 use Rattle.wal_types.specs.declared.refusal.Refusal.{Refusal}
 use Rattle.wal_types.specs.Refusal.{Test, number, lowest}
 use Rattle.wal_types.proofs.Refusals.{number_not_zero}
-use Rattle.reader_slots.specs.declared.slots.SlotLens.{SlotLens}
+use Rattle.reader_slots.specs.declared.slots.SharedSlots.{SharedSlots}
+use Rattle.reader_slots.specs.Slots.{shorter}
 use Rattle.reader_slots.specs.Inner.{short, slots_tests, slots_refusal, registry_tests, registry_refusal}
 
 -- no test applies
@@ -51,63 +53,69 @@ both_true true true e = (refl, refl)
 both_true true false e = absurd (false≢true (sym e))
 both_true false b e = absurd (false≢true (sym e))
 
--- where neither 1 nor 2 applies: n is within its limits, and each part has the cells that n slots need
-pub record Enough (n : ℕ) (lens : SlotLens) : Type 0 where
+-- where neither 1 nor 2 applies: n is within its limits, and each list has the cells that n slots need
+pub record Enough (n : ℕ) (b f o l : List ℕ) : Type 0 where
   pub some : 1 ≤ n
   pub most : n ≤ 256
-  pub words_enough : (n + 63) / 64 ≤ lens.bitmap
-  pub frames_enough : n ≤ lens.reader_frames
-  pub owners_enough : n ≤ lens.reader_owners
-  pub locals_enough : n ≤ lens.local_readers
+  pub words_enough : (n + 63) / 64 ≤ length b
+  pub frames_enough : n ≤ length f
+  pub owners_enough : n ≤ length o
+  pub locals_enough : n ≤ length l
 
-pub enough_by : (n : ℕ) (lens : SlotLens) → not (slots_in_limits n) ≡ false → short n lens ≡ false → Enough n lens
-enough_by n lens e f =
-    let words = lens.bitmap in let frames = lens.reader_frames in let owners = lens.reader_owners in let locals = lens.local_readers in
+pub enough_by : (n : ℕ) (b f o l : List ℕ) → not (slots_in_limits n) ≡ false → shorter n (length b) (length f) (length o) (length l) ≡ false → Enough n b f o l
+enough_by n b f o l e g =
+    let words = length b in let frames = length f in let owners = length o in let locals = length l in
     let s = both_true (leb 1 n) (leb n 256) e in
-    let a = neither_true (ltb words (words_for n) || ltb frames n || ltb owners n) (ltb locals n) f in
-    let b = neither_true (ltb words (words_for n) || ltb frames n) (ltb owners n) a.0 in
-    let c = neither_true (ltb words (words_for n)) (ltb frames n) b.0 in
+    let a = neither_true (ltb words (words_for n) || ltb frames n || ltb owners n) (ltb locals n) g in
+    let c = neither_true (ltb words (words_for n) || ltb frames n) (ltb owners n) a.0 in
+    let d = neither_true (ltb words (words_for n)) (ltb frames n) c.0 in
     record {
       some = leb-true 1 n s.0;
       most = leb-true n 256 s.1;
-      words_enough = ltb-false words (words_for n) c.0;
-      frames_enough = ltb-false frames n c.1;
-      owners_enough = ltb-false owners n b.1;
+      words_enough = ltb-false words (words_for n) d.0;
+      frames_enough = ltb-false frames n d.1;
+      owners_enough = ltb-false owners n c.1;
       locals_enough = ltb-false locals n a.1;
     }
 
-pub enough : (n : ℕ) (lens : SlotLens) → 0 ≡ slots_refusal n lens → Enough n lens
-unfolding slots_refusal
-enough n lens e =
-    let t = none_applies (slots_tests n lens) (sym e) in
-    enough_by n lens t.0 t.1.0
+-- the same of lent slots
+abbrev pub EnoughLent : ℕ → SharedSlots → List ℕ → Type 0
+EnoughLent n s l = Enough n s.bitmap.now s.reader_frames.now s.reader_owners.now l
 
-pub registry_enough : (n : ℕ) (lens : SlotLens) (records : ℕ) → 0 ≡ registry_refusal n lens records → Enough n lens × (n ≤ records)
-unfolding registry_refusal
-registry_enough n lens records e =
-    let t = none_applies (registry_tests n lens records) (sym e) in
-    let s = neither_true (short n lens) (ltb records n) t.1.0 in
-    (enough_by n lens t.0 s.0, ltb-false records n s.1)
+module _ (n : ℕ) (s : SharedSlots) (l : List ℕ) where
+  pub enough_lent : not (slots_in_limits n) ≡ false → short n s l ≡ false → EnoughLent n s l
+  enough_lent e g = enough_by n s.bitmap.now s.reader_frames.now s.reader_owners.now l e g
+
+  pub enough : 0 ≡ slots_refusal n s l → EnoughLent n s l
+  unfolding slots_refusal
+  enough e = let t = none_applies (slots_tests n s l) (sym e) in enough_lent t.0 t.1.0
+
+  pub registry_enough : (records : ℕ) → 0 ≡ registry_refusal n s l records → EnoughLent n s l × (n ≤ records)
+  unfolding registry_refusal
+  registry_enough records e =
+      let t = none_applies (registry_tests n s l records) (sym e) in
+      let q = neither_true (short n s l) (ltb records n) t.1.0 in
+      (enough_lent t.0 q.0, ltb-false records n q.1)
 
 -- refusal 1 or 2 where the registry is lent too, by the one of the slots alone
-module _ (n : ℕ) (lens : SlotLens) (records : ℕ) where
-  pub registry_early : (r : Refusal) → number r ≡ slots_refusal n lens → number r ≡ registry_refusal n lens records
+module _ (n : ℕ) (s : SharedSlots) (l : List ℕ) (records : ℕ) where
+  pub registry_early : (r : Refusal) → number r ≡ slots_refusal n s l → number r ≡ registry_refusal n s l records
   unfolding slots_refusal registry_refusal
-  registry_early r e = go (not (slots_in_limits n)) (short n lens) e
+  registry_early r e = go (not (slots_in_limits n)) (short n s l) e
     where
-      go : (s h : Bool) → number r ≡ cond s 1 (cond h 2 0) → number r ≡ cond s 1 (cond (h || ltb records n) 2 0)
+      go : (t h : Bool) → number r ≡ cond t 1 (cond h 2 0) → number r ≡ cond t 1 (cond (h || ltb records n) 2 0)
       go true h g = g
       go false true g = g
       go false false g = absurd (number_not_zero r g)
 
-  pub registry_short : 0 ≡ slots_refusal n lens → records < n → 2 ≡ registry_refusal n lens records
+  pub registry_short : 0 ≡ slots_refusal n s l → records < n → 2 ≡ registry_refusal n s l records
   unfolding slots_refusal registry_refusal
-  registry_short e l =
-      let a = none_applies (slots_tests n lens) (sym e) in
-      rw (a.0, a.1.0, lt-ltb records n l)
+  registry_short e h =
+      let a = none_applies (slots_tests n s l) (sym e) in
+      rw (a.0, a.1.0, lt-ltb records n h)
 
-  pub registry_fits : 0 ≡ slots_refusal n lens → n ≤ records → 0 ≡ registry_refusal n lens records
+  pub registry_fits : 0 ≡ slots_refusal n s l → n ≤ records → 0 ≡ registry_refusal n s l records
   unfolding slots_refusal registry_refusal
-  registry_fits e l =
-      let a = none_applies (slots_tests n lens) (sym e) in
-      rw (a.0, a.1.0, le-ltb records n l)
+  registry_fits e h =
+      let a = none_applies (slots_tests n s l) (sym e) in
+      rw (a.0, a.1.0, le-ltb records n h)

@@ -4,7 +4,9 @@ pub mod Calls
 pub mod Lowest
 pub mod Some
 pub mod Free
+pub mod FindMap
 pub mod Words
 pub mod Emptied
 pub mod Cells
 pub mod Kept
+pub mod Lent

@@ -1,15 +1,17 @@
 // The lowest slot that a reader can take at once, looked for word by word.
 ghost use Rattle.std.specs.Prelude.{◌≡◌, ◌&&◌, [], ◌∷◌, ◌+◌, ◌-◌, ◌≤◌, eqb};
 ghost use Rattle.reader_slots.specs.Search.{lowest_slot};
-ghost use Rattle.reader_slots.specs.Inner.{AllHold, HoldSlots, available_by, available_in};
+ghost use Rattle.reader_slots.specs.Inner.{AllHold, HoldBits, available_by, available_in};
 
-use wal_types::{SharedOwnerRecord, UNOWNED_LOCK};
+use crate::slots::SharedSlots;
+use wal_types::SharedOwnerRecord;
+use wal_types::byte_lock::ByteLock;
 
 // A slot that can be locked: it is granted and not held here.
-fn can_lock(local_owner: SharedOwnerRecord, card: u8) -> bool
+pub fn can_lock(local_owner: SharedOwnerRecord, card: u8) -> bool
     ensures { result ≡ (eqb local_owner.0 0 && eqb card 1) }
 {
-    local_owner.0 == UNOWNED_LOCK && card == 1
+    local_owner == SharedOwnerRecord::UNOWNED && card == ByteLock::Granted as u8
 }
 
 // The lowest available slot of one word, whose slots are those from first to end. Only free slots are looked at, from the
@@ -27,8 +29,8 @@ fn slot_in_word(
 {
     let mut left = word;
     while left != 0 {
-        let bit = word_bits::lowest_bit(left);
-        let slot = first + bit as usize;
+        let bit = word_bits::lowest_bit(left) as usize;
+        let slot = first + bit;
         if end <= slot {
             return None;
         }
@@ -40,20 +42,20 @@ fn slot_in_word(
     None
 }
 
-// The lowest slot that is free, granted and not held here. It is a for: with find_map, of which std has no lemma, the proof
-// did not close.
-pub fn available_slot(n: usize, bitmap: &[u64], local_readers: &[u64], card: &[u8]) -> Option<usize>
-    requires { HoldSlots n bitmap.now (local_readers.now ∷ card.now ∷ []) }
-    ensures { result ≡ lowest_slot (available_by bitmap.now local_readers.now card.now) n 0 }
+// The lowest slot that is free, granted and not held here.
+pub fn available_slot(
+    n: usize,
+    slots: &SharedSlots<'_>,
+    local_readers: &[u64],
+    card: &[u8],
+) -> Option<usize>
+    requires { HoldBits n slots.now.bitmap.now × AllHold n (local_readers.now ∷ card.now ∷ []) }
+    ensures { result ≡ lowest_slot (available_by slots.now.bitmap.now local_readers.now card.now) n 0 }
 {
     let words = (n + 63) / 64;
-    for word in 0..words {
+    (0..words).find_map(|word| {
         let first = word * 64;
         let end = (first + 64).min(n);
-        let found = slot_in_word(bitmap[word], first, end, local_readers, card);
-        if found.is_some() {
-            return found;
-        }
-    }
-    None
+        slot_in_word(slots.bitmap[word], first, end, local_readers, card)
+    })
 }

@@ -1,62 +1,44 @@
 // What all calls on reader slots share: the refusals 1, 2, 9, 10 and 14, and the emptying of one slot.
 ghost use Rattle.std.specs.Prelude.{◌≡◌, ◌&&◌, [], ◌∷◌, ◌/◌, ◌%◌, ◌<◌, eqb, length, get_or, set, IfOk};
 ghost use Rattle.wal_types.specs.Settings.{is_fcntl};
-ghost use Rattle.wal_types.specs.Memory.{Memory};
-ghost use Rattle.wal_types.specs.Store.{apply};
 ghost use Rattle.wal_types.specs.Refusal.{refused_number};
 ghost use Rattle.word_bits.specs.Bit.{set_bit};
-ghost use Rattle.reader_slots.specs.Slots.{empty_slot, slots_in};
-ghost use Rattle.reader_slots.specs.Inner.{HoldSlot, lens_of, slots_refusal, registry_refusal, reader_refusal, card_refusal, greatest};
+ghost use Rattle.reader_slots.specs.Slots.{empty_slot};
+ghost use Rattle.reader_slots.specs.Inner.{HoldSlot, SlotsStored, slots_refusal, registry_refusal, reader_refusal, card_refusal, greatest};
 
+use wal_types::byte_lock::ByteLock;
 use wal_types::refusal::Refusal;
+use wal_types::settings::Reader;
 use wal_types::{SharedOwnerRecord, SharedWalOwnershipMode, UNOWNED_LOCK, UNUSED_READER_FRAME};
 
-// The lengths of the lent parts.
-#[derive(Clone, Copy)]
-pub struct SlotLens {
-    pub bitmap: usize,
-    pub reader_frames: usize,
-    pub reader_owners: usize,
-    pub local_readers: usize,
-}
-
-impl SlotLens {
-    pub fn of(
-        bitmap: &[u64],
-        reader_frames: &[u64],
-        reader_owners: &[u64],
-        local_readers: &[u64],
-    ) -> Self
-        ensures { result ≡ lens_of bitmap.now reader_frames.now reader_owners.now local_readers.now }
-    {
-        SlotLens {
-            bitmap: bitmap.len(),
-            reader_frames: reader_frames.len(),
-            reader_owners: reader_owners.len(),
-            local_readers: local_readers.len(),
-        }
-    }
+// The cells of the reader slots in shared memory, as a call is lent them. (That they are those of n slots stands in contracts, as
+// HoldSlots: the local owners and the card, which are lent apart, have to be as many.)
+#[derive(Drop)]
+pub struct SharedSlots<'a> {
+    pub bitmap: &'a mut [u64],
+    pub reader_frames: &'a mut [u64],
+    pub reader_owners: &'a mut [u64],
 }
 
 // A slot without an owner, which in ProcessScopedFcntl mode is neither reclaimed nor counted.
 pub fn is_ownerless(mode: SharedWalOwnershipMode, owner: SharedOwnerRecord) -> bool
     ensures { result ≡ (is_fcntl mode && eqb owner.0 0) }
 {
-    mode.is_fcntl() && owner.0 == UNOWNED_LOCK
+    mode.is_fcntl() && owner == SharedOwnerRecord::UNOWNED
 }
 
-// Refusal 1 or 2, by the lengths of the lent parts.
+// Refusal 1 or 2, by the lengths of the lent lists.
 #[tactic(auto, unfolding(crate::specs::Inner::slots_refusal))]
-pub fn check_slots(n: usize, lens: SlotLens) -> Result<(), Refusal>
-    ensures { refused_number result ≡ slots_refusal n lens }
+pub fn check_slots(n: usize, slots: &SharedSlots<'_>, local_readers: &[u64]) -> Result<(), Refusal>
+    ensures { refused_number result ≡ slots_refusal n slots.now local_readers.now }
 {
     if n < 1 || 256 < n {
         return Err(Refusal::Settings);
     }
-    if lens.bitmap < (n + 63) / 64
-        || lens.reader_frames < n
-        || lens.reader_owners < n
-        || lens.local_readers < n
+    if slots.bitmap.len() < (n + 63) / 64
+        || slots.reader_frames.len() < n
+        || slots.reader_owners.len() < n
+        || local_readers.len() < n
     {
         return Err(Refusal::ShortMemory);
     }
@@ -65,10 +47,15 @@ pub fn check_slots(n: usize, lens: SlotLens) -> Result<(), Refusal>
 
 // Refusal 1 or 2 where the registry of shared marks is lent too.
 #[tactic(auto, using(crate::proofs::Calls::registry_early, crate::proofs::Calls::registry_short, crate::proofs::Calls::registry_fits))]
-pub fn check_registry(n: usize, lens: SlotLens, registry_len: usize) -> Result<(), Refusal>
-    ensures { refused_number result ≡ registry_refusal n lens registry_len }
+pub fn check_registry(
+    n: usize,
+    slots: &SharedSlots<'_>,
+    local_readers: &[u64],
+    registry_len: usize,
+) -> Result<(), Refusal>
+    ensures { refused_number result ≡ registry_refusal n slots.now local_readers.now registry_len }
 {
-    check_slots(n, lens)?;
+    check_slots(n, slots, local_readers)?;
     if registry_len < n {
         return Err(Refusal::ShortMemory);
     }
@@ -77,13 +64,13 @@ pub fn check_registry(n: usize, lens: SlotLens, registry_len: usize) -> Result<(
 
 // Refusal 9 or 10, by the owner and the mark of a reader.
 #[tactic(auto, unfolding(crate::specs::Inner::reader_refusal))]
-pub fn check_reader(owner: SharedOwnerRecord, mark: u64) -> Result<(), Refusal>
-    ensures { refused_number result ≡ reader_refusal owner.0 mark }
+pub fn check_reader(reader: Reader) -> Result<(), Refusal>
+    ensures { refused_number result ≡ reader_refusal reader.owner.0 reader.mark }
 {
-    if owner.0 == UNOWNED_LOCK {
+    if reader.owner == SharedOwnerRecord::UNOWNED {
         return Err(Refusal::NoOwner);
     }
-    if mark == UNUSED_READER_FRAME {
+    if reader.mark == UNUSED_READER_FRAME {
         return Err(Refusal::UnusedMark);
     }
     Ok(())
@@ -108,10 +95,10 @@ pub fn card_has_error(n: usize, card: &[u8]) -> Result<bool, Refusal>
         return Err(Refusal::Card);
     }
     let greatest = greatest_byte(card);
-    if 2 < greatest {
+    if greatest > ByteLock::Error as u8 {
         return Err(Refusal::Card);
     }
-    Ok(greatest == 2)
+    Ok(greatest == ByteLock::Error as u8)
 }
 
 // Refusal 14.
@@ -128,32 +115,26 @@ fn free_bit(bitmap: &mut [u64], slot: usize)
     ensures { bitmap.new ≡ set bitmap.old (slot / 64) (set_bit (get_or bitmap.old (slot / 64) 0) (slot % 64)) }
 {
     let word = slot / 64;
-    bitmap[word] = word_bits::with_bit(bitmap[word], (slot % 64) as u32);
+    bitmap[word] = word_bits::with_bit(bitmap[word], slot);
 }
 
-// Empties a slot, on release or when it is reclaimed: frame UNUSED, owner 0, bit 1, in the mode's order.
-// The lent parts are parameters of their own, here and in every call: a struct of &mut slices would bring the ghost name of
-// each reference into each contract.
-pub fn empty_slot(
-    mode: SharedWalOwnershipMode,
-    bitmap: &mut [u64],
-    reader_frames: &mut [u64],
-    reader_owners: &mut [u64],
-    slot: usize,
-)
-    requires { HoldSlot slot bitmap.old (reader_frames.old ∷ reader_owners.old ∷ []) }
-    ensures { (z : Memory) → slots_in z bitmap.new reader_frames.new reader_owners.new ≡ apply (empty_slot mode slot (slots_in z bitmap.old reader_frames.old reader_owners.old)) (slots_in z bitmap.old reader_frames.old reader_owners.old) }
-{
-    match mode {
-        SharedWalOwnershipMode::LinuxOfd => {
-            reader_frames[slot] = UNUSED_READER_FRAME;
-            reader_owners[slot] = UNOWNED_LOCK;
-            free_bit(bitmap, slot);
-        }
-        SharedWalOwnershipMode::ProcessScopedFcntl => {
-            reader_owners[slot] = UNOWNED_LOCK;
-            reader_frames[slot] = UNUSED_READER_FRAME;
-            free_bit(bitmap, slot);
+impl SharedSlots<'_> {
+    // Empties a slot, on release or when it is reclaimed: frame UNUSED, owner 0, bit 1, in the mode's order.
+    pub fn empty_slot(&mut self, mode: SharedWalOwnershipMode, slot: usize)
+        requires { HoldSlot slot self.old [] }
+        ensures { SlotsStored (empty_slot mode slot) self.old self.new }
+    {
+        match mode {
+            SharedWalOwnershipMode::LinuxOfd => {
+                self.reader_frames[slot] = UNUSED_READER_FRAME;
+                self.reader_owners[slot] = UNOWNED_LOCK;
+                free_bit(self.bitmap, slot);
+            }
+            SharedWalOwnershipMode::ProcessScopedFcntl => {
+                self.reader_owners[slot] = UNOWNED_LOCK;
+                self.reader_frames[slot] = UNUSED_READER_FRAME;
+                free_bit(self.bitmap, slot);
+            }
         }
     }
 }

@@ -21,7 +21,6 @@ use Rattle.wal_types.specs.Call.{Call, value, frame_found, turned_away, accepted
 use Rattle.wal_types.proofs.Stores.{apply_append}
 use Rattle.reader_slots.specs.Slots.{held, granted, empty_slot, empty_slots}
 use Rattle.reader_probe.specs.Live.{skipped, dead, live}
-use Rattle.reader_slots.specs.Inner.{lens_of}
 use Rattle.reader_slots.proofs.Calls.{none_applies, enough_by}
 use Rattle.reader_floor.specs.Floor.{floor_of, floor_answer, probe_tests, reclaim_dead, min_active_reader_frame}
 use Rattle.reader_limit.specs.Limit.{limit_of, db_file_is_read, held_back, limit_at, copy_back_limit}
@@ -154,7 +153,7 @@ module _ (n : ℕ) (mode : SharedWalOwnershipMode) (bytes : List ℕ) (m : Memor
     bounded : lowest (probe_tests n mode bytes n m p) ≡ 0 → Stays (apply (reclaim_dead mode bytes p n m) m) → AtMost x (floor_of n mode bytes m p)
     bounded e h =
         let t = none_applies (probe_tests n mode bytes n m p) e in
-        let r = enough_by n (lens_of m.bitmap m.reader_frames m.reader_owners p.local_readers) t.0 t.1.0 in
+        let r = enough_by n m.bitmap m.reader_frames m.reader_owners p.local_readers t.0 t.1.0 in
         floor_at_most mode bytes p m n i x below (is_live h) (get_or_any m.reader_frames i 0 unused (omega arith) ∙ marked) (λ z. (omega arith))
 
     pub floor_bound : accepted (after (min_active_reader_frame n mode bytes) m p).answer → Stays (after (min_active_reader_frame n mode bytes) m p).memory → (f : ℕ) × ((after (min_active_reader_frame n mode bytes) m p).answer ≡ frame_found f) × (f ≤ x)

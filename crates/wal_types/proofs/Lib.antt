@@ -2,3 +2,4 @@
 pub mod Stores
 pub mod Refusals
 pub mod Every
+pub mod ByteLocks

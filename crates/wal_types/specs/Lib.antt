@@ -4,5 +4,6 @@ pub mod Memory
 pub mod Store
 pub mod Refusal
 pub mod Mode
+pub mod InnerByteLock
 pub mod Call
 pub mod Fresh

@@ -2,7 +2,9 @@
 // The definitions that all calls share (settings, memory, stores, answers, refusals, fresh memory) are in specs/.
 #![tactic(auto)]
 
+pub mod byte_lock;
 pub mod refusal;
+pub mod settings;
 
 ghost use Rattle.std.specs.Prelude.{◌≡◌, ◌+◌, ◌*◌, ◌/◌, ◌%◌, ◌^◌};
 ghost use Rattle.wal_types.specs.Settings.{is_fcntl};
@@ -31,6 +33,9 @@ pub const FRAME_INDEX_BLOCK_HASH_SLOTS: u32 = 8192;
 pub struct SharedOwnerRecord(pub u64);
 
 impl SharedOwnerRecord {
+    // Nobody.
+    pub const UNOWNED: Self = SharedOwnerRecord(UNOWNED_LOCK);
+
     pub fn new(pid: u32, instance_id: u32) -> Self
         ensures { result.0 ≡ pid * 2 ^ 32 + instance_id }
     {

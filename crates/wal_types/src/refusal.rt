@@ -1,6 +1,6 @@
 // Why a call is turned away. The numbers are those of document 01's table.
 ghost use Rattle.std.specs.Prelude.{◌≡◌};
-ghost use Rattle.wal_types.specs.Refusal.{number};
+ghost use Rattle.wal_types.specs.Refusal.{number, refused_number};
 
 #[derive(Clone, Copy, PartialEq, Eq)]
 pub enum Refusal {
@@ -26,5 +26,15 @@ impl From<Refusal> for u32 {
 
     fn from(refusal: Refusal) -> u32 {
         refusal as u32
+    }
+}
+
+// 0, or the number of the refusal.
+pub fn refusal_told<T: Copy>(answer: Result<T, Refusal>) -> u32
+    ensures { result ≡ refused_number answer }
+{
+    match answer {
+        Ok(_) => 0,
+        Err(refusal) => u32::from(refusal),
     }
 }

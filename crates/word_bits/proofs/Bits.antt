@@ -9,7 +9,8 @@ use lib.Bits.{bit_and, bit_or, and_step, or_add_and, and_mask}
 use lib.Count.{count_trailing_zeros, trailing_le}
 use native.Mathlib.Decide.{dec_le}
 use mir.Syntax.{w64}
-use Rattle.std.proofs.lemmas.Nat.Bits.{bit_at_lowest, bit_at-suc, bit_at-zero, bit_at-lt, and_pow, bit_at-trailing_zeros, same_from_bits}
+use Rattle.std.proofs.lemmas.Nat.Bits.{bit_at_lowest, bit_at-suc, bit_at-zero, bit_at-lt, and_pow, bit_at-trailing_zeros, bit_at_and, same_from_bits}
+use Rattle.std.specs.Int.{bit_at as std_bit_at}
 use Rattle.wal_types.specs.Memory.{bit_at}
 use Rattle.word_bits.specs.Bit.{set_bit, clear_bit, Lowest}
 
@@ -53,6 +54,16 @@ and_not (suc i) (suc k) n l h =
     let p = pow-suc 2 k in let o = pow-suc 2 i in let z = pow_pos i in let lt : 2 ^ i < 2 ^ k = pow-lt (omega arith) in let w = worth i (n / 2) in
     mask_step n ((2 ^ suc k - 1) - 2 ^ suc i) ((2 ^ k - 1) - 2 ^ i) 1 (n / 2 - bit_at (n / 2) i * 2 ^ i) (omega arith) (omega arith) (and_not i k (n / 2) (omega arith) (omega arith))
     ∙ rw (bit_suc, pow-suc, ← mul_assoc) (omega arith)
+
+-- a bit of two numbers' `&`
+min_bits : (x y : ℕ) → x < 2 → y < 2 → min x y ≡ x * y
+min_bits zero y h g = omega arith
+min_bits (suc zero) y h g = omega arith
+min_bits (suc (suc x)) y h g = absurd (omega arith)
+
+pub bit_of_and : (a b j : ℕ) → bit_at (bit_and a b) j ≡ bit_at a j * bit_at b j
+unfolding bit_at
+bit_of_and a b j = bit_at_and a b j ∙ min_bits (std_bit_at a j) (std_bit_at b j) (bit_at-lt a j) (bit_at-lt b j)
 
 -- the least bit that is set
 zero_trails : count_trailing_zeros 64 0 ≡ 64

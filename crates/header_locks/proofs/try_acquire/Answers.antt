@@ -1,24 +1,14 @@
-use borrow.Author.Tests.{eq-eqb, ne_eqb, lt-ltb, le-ltb}
+-- `header_locks::try_acquire`: a lock that is taken, written out so that a wrong owner is refused at an equation. Assumes nothing.
+use Rattle.std.specs.Prelude.{◌≡◌, Ok}
+use Rattle.std.proofs.Common.{rules}
+use Rattle.wal_types.specs.InnerByteLock.{byte_lock_given}
+use Rattle.wal_types.proofs.ByteLocks.{on_card, granted}
 use Rattle.header_locks.specs.Locks.{try_acquire}
 use Rattle.header_locks.proofs.Cells.{local_of_with, with_twice}
 use Rattle.header_locks.proofs.try_acquire.Goals as goal
 
-pub returns-then-owner-eq-UNOWNED_LOCK : goal.returns-then-owner-eq-UNOWNED_LOCK
+pub returns-then-eq-3 : goal.returns-then-eq-3
 unfolding try_acquire
-returns-then-owner-eq-UNOWNED_LOCK c z p = rw (eq-eqb _ _ c.if-owner-eq-UNOWNED_LOCK.true)
-
-pub returns-then-card-gt2 : goal.returns-then-card-gt2
-unfolding try_acquire
-returns-then-card-gt2 c z p = rw (ne_eqb _ _ c.if-owner-eq-UNOWNED_LOCK.false, lt-ltb _ _ c.if-card-gt2.true)
-
-pub returns-then-local_owner-ne-UNOWNED_LOCK : goal.returns-then-local_owner-ne-UNOWNED_LOCK
-unfolding try_acquire
-returns-then-local_owner-ne-UNOWNED_LOCK c z p = rw (ne_eqb _ _ c.if-owner-eq-UNOWNED_LOCK.false, le-ltb _ _ c.if-card-gt2.false, local_of_with, ne_eqb _ _ c.if-local_owner-ne-UNOWNED_LOCK.true)
-
-pub returns-then-card-ne1 : goal.returns-then-card-ne1
-unfolding try_acquire
-returns-then-card-ne1 c z p = rw (ne_eqb _ _ c.if-owner-eq-UNOWNED_LOCK.false, le-ltb _ _ c.if-card-gt2.false, local_of_with, eq-eqb _ _ c.if-local_owner-ne-UNOWNED_LOCK.false, ne_eqb _ _ c.if-card-ne1.true)
-
-pub returns : goal.returns
-unfolding try_acquire
-returns c z p = rw (ne_eqb _ _ c.if-owner-eq-UNOWNED_LOCK.false, le-ltb _ _ c.if-card-gt2.false, local_of_with, eq-eqb _ _ c.if-local_owner-ne-UNOWNED_LOCK.false, eq-eqb _ _ c.if-card-ne1.false, with_twice, c.set_owner.ensures)
+returns-then-eq-3 c z p =
+    let given : byte_lock_given c.args.card ≡ Ok c.in_ok-byte_lock.byte_lock = search rules in
+    rw (← c.if-eq.ensures, on_card _ _ given, local_of_with, ← c.if-eq-2.ensures, granted _ _ given (search rules), with_twice, c.set_owner.ensures)

@@ -1,3 +1,4 @@
+-- Written out, since it names the equation at which a wrong version fails.
 use Rattle.std.proofs.Common.{◌∙◌, ap, is_some}
 use Rattle.reader_registry.proofs.Scan.{slot_told}
 use Rattle.reader_registry.proofs.slot_is_shared.Goals as goal

@@ -5,7 +5,7 @@ use Rattle.list_gather.proofs.gather.note_cells.Goals.{then-ne, else-ne}
 use Rattle.list_gather.proofs.gather.note_cells.Goals as goal
 
 pub loop-run-init : goal.loop-run-init
-loop-run-init c = record { every_value = omega arith; noted = λ v s b. rw has_none (c.requires.1 v b) }
+loop-run-init c = record { every_value = omega arith; noted = λ v s b. rw has_none (c.requires v b) }
 
 pub loop-run-preserved : goal.loop-run-preserved
 loop-run-preserved c =

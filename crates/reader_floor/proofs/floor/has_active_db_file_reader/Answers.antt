@@ -1,12 +1,9 @@
-use Rattle.reader_floor.proofs.Floored.{db_file_early, db_file_late, db_file_room}
+use Rattle.reader_floor.proofs.Floored.{db_file_early, db_file_late}
 use Rattle.std.proofs.lemmas.Result.{err_from_is_err_and}
 use Rattle.reader_floor.proofs.floor.has_active_db_file_reader.Goals as goal
 
 pub returns-in_err-check_slots : goal.returns-in_err-check_slots
-returns-in_err-check_slots c = let p = err_from_is_err_and c.from_residual.result c.from_residual.ensures.1 in rw (p.1, p.2) (db_file_early _ _ _ _ _ _ _ _ (rw c.of-lens.ensures at c.in_err-check_slots.ensures))
+returns-in_err-check_slots c = let p = err_from_is_err_and c.from_residual.result c.from_residual.ensures.1 in rw (p.1, p.2) (db_file_early _ _ _ _ _ c.in_err-check_slots.ensures)
 
 pub returns-in_err-check_db_file : goal.returns-in_err-check_db_file
-returns-in_err-check_db_file c = let p = err_from_is_err_and c.from_residual-in_err-check_db_file.result c.from_residual-in_err-check_db_file.ensures.1 in rw (p.1, p.2) (db_file_late _ _ _ _ _ _ _ (rw c.of-lens.ensures at c.in_ok-check_slots.ensures) _ c.in_err-check_db_file.ensures)
-
-pub finds_db_file_reader-requires : goal.finds_db_file_reader-requires
-finds_db_file_reader-requires c = db_file_room _ _ _ _ _ _ _ (rw c.of-lens.ensures at c.in_ok-check_slots.ensures) c.in_ok-check_db_file.ensures
+returns-in_err-check_db_file c = let p = err_from_is_err_and c.from_residual-in_err-check_db_file.result c.from_residual-in_err-check_db_file.ensures.1 in rw (p.1, p.2) (db_file_late _ _ _ _ c.in_ok-check_slots.ensures _ c.in_err-check_db_file.ensures)

@@ -1,8 +1,6 @@
-use Rattle.reader_slots.proofs.Card.{card_fits}
-use Rattle.reader_probe.proofs.Looked.{looked_bound}
-use mathlib.Core.Path.{sym}
-use native.Mathlib.Omega.{arith}
+use Rattle.reader_probe.proofs.Looked.{look_fails}
+use mathlib.Core.Path.{sym, ◌∙◌}
 use Rattle.reader_probe.proofs.probe.check_db_file.Goals as goal
 
-pub some_probe_failed-requires : goal.some_probe_failed-requires
-some_probe_failed-requires c = let h = card_fits _ _ c.in_ok-card_has_error.ensures.refused in let b = looked_bound _ c.args.n c.args.n 0 _ (sym c.db_file_slot-first.ensures) (omega arith) in omega (arith, c.unwrap_or-looked.ensures)
+pub returns-then-some_probe_failed : goal.returns-then-some_probe_failed
+returns-then-some_probe_failed c = rw (← c.db_file_slot-first.ensures, ← c.unwrap_or-looked.ensures) (look_fails _ _ _ _ _ c.in_ok-card_has_error.ensures.refused (sym c.if-some_probe_failed.true ∙ c.some_probe_failed.ensures))

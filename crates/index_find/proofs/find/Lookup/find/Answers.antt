@@ -1,11 +1,7 @@
-use Rattle.std.proofs.Common.{arith, ◌∙◌}
+use Rattle.std.proofs.Common.{arith}
 use Rattle.index_find.specs.Find.{blocks_for}
 use Rattle.index_find.proofs.Blockwise.{cells_most}
 use Rattle.index_find.proofs.find.Lookup.find.Goals as goal
-
-pub find_along_runs-rest-requires : goal.find_along_runs-rest-requires
-find_along_runs-rest-requires c =
-    c.in-Left.ensures.0
 
 pub overflow_add-result : goal.overflow_add-result
 overflow_add-result c =
@@ -14,9 +10,3 @@ overflow_add-result c =
     let told = c.in-Left.ensures in
     let most = cells_most a.visible_slots a.pages.now a.frames.now a.hash.now a.page_id a.min_frame a.max_frame (blocks_for a.visible_slots) in
     omega (arith, r.blocks_most, most, told.1.1, c.find_along_runs-rest.ensures.1)
-
-pub returns-in-Left : goal.returns-in-Left
-returns-in-Left c =
-    let told = c.in-Left.ensures in
-    let rest = c.find_along_runs-rest.ensures in
-    (rest.0 ∙ told.1.0, omega (arith, told.1.1, rest.1))

@@ -1,6 +1,6 @@
-use mathlib.Core.Path.{sym, ◌∙◌}
+use mathlib.Core.Path.{◌≡◌, sym, ◌∙◌}
 use Rattle.index_find.proofs.Blockwise.{block_most, found_in_block, looked_in_block, block_found, block_passed, blocks_done, cells_found, cells_passed, cells_done, cells_small}
-use Prim.Native.Nat.{◌-◌}
+use Prim.Native.Nat.{◌+◌, ◌-◌}
 use native.Mathlib.Omega.{arith}
 use Rattle.index_find.proofs.find.Lookup.find_near.Goals as goal
 
@@ -42,3 +42,8 @@ loop-k-preserved c =
     let here = looked_in_block _ _ l.frames.now _ _ l.min_frame l.max_frame _ _ _ c.frame_found-found.ensures probed.0 in
     let none = sym c.is_some.ensures ∙ c.if-is_some.false in
     (omega arith, (block_passed _ _ _ _ _ _ _ _ _ taken here none ∙ i.1.0, cells_passed _ _ _ _ _ _ _ _ _ _ _ taken i.1.1 probed.1 _ here none))
+
+pub returns-in_default : goal.returns-in_default
+returns-in_default c =
+    let here : c.loop-k.k - 1 + 1 ≡ c.loop-k.k = omega arith in
+    rw (← here) at c.loop-k.invariant

@@ -1,7 +1,0 @@
-use Rattle.std.proofs.Common.{refl}
-use Rattle.header_publish.specs.Publish.{bump_checkpoint_epoch}
-use Rattle.header_publish.proofs.bump_checkpoint_epoch.Goals as goal
-
-pub returns : goal.returns
-unfolding bump_checkpoint_epoch
-returns c z p = refl

@@ -1,0 +1,5 @@
+use Rattle.std.proofs.Common.{eqb}
+use Rattle.reader_registry.proofs.look_through.Given as goal
+
+abbrev pub ghost-first_used : goal.ghost-first_used
+ghost-first_used a = λ r. eqb r.mark a.is_wanted.0.now
