@@ -1,2 +1,3 @@
 -- The two locks.
+pub mod InnerChange
 pub mod Locks

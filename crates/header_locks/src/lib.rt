@@ -2,9 +2,10 @@
 // cell for the lock; to acquire, it is given the answer of the byte lock: 0 busy, 1 granted, 2 error.
 #![tactic(auto)]
 
-ghost use Rattle.std.specs.Prelude.{◌≡◌, not, ◌&&◌, eqb};
+ghost use Rattle.std.specs.Prelude.{◌≡◌, false, not, ◌&&◌, eqb};
 ghost use Rattle.wal_types.specs.Memory.{header_with};
 ghost use Rattle.wal_types.specs.Settings.{is_fcntl};
+ghost use Rattle.header_locks.specs.InnerChange.{shared_owner_of};
 ghost use Rattle.header_locks.specs.Locks.{owner_cell, try_acquire, acquire_answer, release, release_answer, LockCall};
 
 use wal_types::byte_lock::ByteLock;
@@ -17,29 +18,34 @@ pub enum Lock {
     Checkpoint,
 }
 
-// An owner goes into the lock's shared cell. Where it is there already nothing is stored, so that such a call can be made on
-// memory that is mapped read-only. (A store in each arm: of a header whose cell a match has chosen before, a proof does not know
-// what it becomes.)
-fn set_owner(lock: Lock, header: &mut Header, owner: SharedOwnerRecord)
+// An owner goes into the lock's shared cell.
+pub fn set_owner(lock: Lock, header: &mut Header, owner: SharedOwnerRecord)
     ensures { header.new ≡ header_with (owner_cell lock) owner.0 header.old }
 {
     match lock {
         Lock::Writer => {
-            if owner.0 != header.writer_owner {
-                header.writer_owner = owner.0;
-            }
+            header.writer_owner = owner.0;
         }
         Lock::Checkpoint => {
-            if owner.0 != header.checkpoint_owner {
-                header.checkpoint_owner = owner.0;
-            }
+            header.checkpoint_owner = owner.0;
         }
+    }
+}
+
+// Whether that header is another one. Where it is not, the calls store nothing to it, so that they can be made on memory that
+// is mapped read-only.
+pub fn owner_changes(lock: Lock, header: Header, owner: SharedOwnerRecord) -> bool
+    ensures { (result ≡ not (eqb owner.0 (shared_owner_of lock header))) × (result ≡ false → header_with (owner_cell lock) owner.0 header ≡ header) }
+{
+    match lock {
+        Lock::Writer => owner.0 != header.writer_owner,
+        Lock::Checkpoint => owner.0 != header.checkpoint_owner,
     }
 }
 
 // Attempts to take a lock: the owner goes into both cells, or the lock is busy. (The lock, the header and the owners stay
 // parameters: there are two calls, and a struct would be made anew for each.)
-#[tactic(auto, using(crate::proofs::Cells::local_of_with, wal_types::proofs::ByteLocks::off_card, wal_types::proofs::ByteLocks::on_card, wal_types::proofs::ByteLocks::not_granted), unfolding(crate::specs::Locks::try_acquire))]
+#[tactic(auto, using(crate::proofs::Cells::local_of_with, wal_types::proofs::ByteLocks::off_card, wal_types::proofs::ByteLocks::on_card, wal_types::proofs::ByteLocks::granted, wal_types::proofs::ByteLocks::not_granted, crate::proofs::Cells::with_twice), unfolding(crate::specs::Locks::try_acquire))]
 pub fn try_acquire(
     lock: Lock,
     header: &mut Header,
@@ -54,7 +60,9 @@ pub fn try_acquire(
     }
     let byte_lock = ByteLock::try_from(card)?;
     if *local_owner == SharedOwnerRecord::UNOWNED && byte_lock == ByteLock::Granted {
-        set_owner(lock, header, owner);
+        if owner_changes(lock, *header, owner) {
+            set_owner(lock, header, owner);
+        }
         *local_owner = owner;
         return Ok(true);
     }
@@ -92,7 +100,9 @@ pub fn release(
     if owner == SharedOwnerRecord::UNOWNED {
         return Err(Refusal::NoOwner);
     }
-    set_owner(lock, header, SharedOwnerRecord::UNOWNED);
+    if owner_changes(lock, *header, SharedOwnerRecord::UNOWNED) {
+        set_owner(lock, header, SharedOwnerRecord::UNOWNED);
+    }
     *local_owner = SharedOwnerRecord::UNOWNED;
     Ok(())
 }

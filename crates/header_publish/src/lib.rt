@@ -1,7 +1,7 @@
 // Publishes and bumps. The header is lent, and each call stores to its own cells alone, in the order of the definitions.
 #![tactic(auto)]
 
-ghost use Rattle.std.specs.Prelude.{◌≡◌};
+ghost use Rattle.std.specs.Prelude.{◌≡◌, not, ◌==◌};
 ghost use Rattle.wal_types.specs.Call.{ok, value};
 ghost use Rattle.header_publish.specs.Publish.{publish_commit, publish_backfill, bump_checkpoint_seq, bump_checkpoint_epoch, HeaderCall};
 
@@ -36,9 +36,16 @@ pub fn publish_commit(
 pub fn publish_backfill(header: &mut Header, nbackfills: u64)
     ensures { HeaderCall (publish_backfill nbackfills) header.old ok header.new }
 {
-    if nbackfills != header.nbackfills {
+    if backfill_changes(*header, nbackfills) {
         header.nbackfills = nbackfills;
     }
+}
+
+// Whether that header is another.
+pub fn backfill_changes(header: Header, nbackfills: u64) -> bool
+    ensures { result ≡ not (nbackfills == header.nbackfills) }
+{
+    nbackfills != header.nbackfills
 }
 
 // Answers the new checkpoint number.

@@ -5,11 +5,9 @@ use native.Mathlib.Nat.{mod-eq_of_lt, pow-suc, one-mul, mul_assoc}
 use native.Mathlib.Omega.{arith}
 use lib.Dec.{lit<}
 use lib.Pow.{pow_pos, pow-lt, shl_exact}
-use lib.Bits.{bit_and, bit_or, and_step, or_add_and, and_mask}
-use lib.Count.{count_trailing_zeros, trailing_le}
-use native.Mathlib.Decide.{dec_le}
-use mir.Syntax.{w64}
-use Rattle.std.proofs.lemmas.Nat.Bits.{bit_at_lowest, bit_at-suc, bit_at-zero, bit_at-lt, and_pow, bit_at-trailing_zeros, bit_at_and, same_from_bits}
+use lib.Bits.{bit_and, bit_or, and_step, or_add_and, or_lt, and_mask}
+use lib.Count.{count_trailing_zeros, under, trailing_le}
+use Rattle.std.proofs.lemmas.Nat.Bits.{bit_at_lowest, bit_at-suc, bit_at-zero, bit_at-lt, and_pow, bit_at_and, same_from_bits}
 use Rattle.std.specs.Int.{bit_at as std_bit_at}
 use Rattle.wal_types.specs.Memory.{bit_at}
 use Rattle.word_bits.specs.Bit.{set_bit, clear_bit, Lowest}
@@ -65,20 +63,34 @@ pub bit_of_and : (a b j : ℕ) → bit_at (bit_and a b) j ≡ bit_at a j * bit_a
 unfolding bit_at
 bit_of_and a b j = bit_at_and a b j ∙ min_bits (std_bit_at a j) (std_bit_at b j) (bit_at-lt a j) (bit_at-lt b j)
 
--- the least bit that is set
-zero_trails : count_trailing_zeros 64 0 ≡ 64
+-- trailing zeros
+pub zeros_below : (k n j : ℕ) → j < count_trailing_zeros k n → bit_at n j ≡ 0
 unfolding count_trailing_zeros
-zero_trails = refl
-
-pub lowest_of : (word : ℕ) → word < 2 ^ 64 → Lowest word (count_trailing_zeros 64 word)
-unfolding bit_at
-lowest_of word fits = go (dec_le 1 word)
+zeros_below zero n j h = absurd (omega arith)
+zeros_below (suc k) n j h = go (λ i. zeros_below k (n / 2) i) (n % 2) refl j h
   where
-    go : Dec (1 ≤ word) → Lowest word (count_trailing_zeros 64 word)
-    go (yes some) = let z = bit_at-trailing_zeros w64 word some fits in record { most = trailing_le 64 word; before = z.2; here = λ h. z.1 }
-    go (no f) =
-        let e : word ≡ 0 = omega arith in
-        rw e (record { most = omega (arith, zero_trails); before = λ j h. bit_at-zero j; here = λ h. absurd (omega (arith, zero_trails)) })
+    go : ((i : ℕ) → i < count_trailing_zeros k (n / 2) → bit_at (n / 2) i ≡ 0) → (d : ℕ) → n % 2 ≡ d → (j : ℕ) → j < under d (count_trailing_zeros k (n / 2)) → bit_at n j ≡ 0
+    go ih zero e zero h = bit_zero n ∙ e
+    go ih zero e (suc j) h = bit_suc n j ∙ ih j (omega arith)
+    go ih (suc d) e j h = absurd (omega arith)
+
+pub one_at : (k n : ℕ) → count_trailing_zeros k n < k → bit_at n (count_trailing_zeros k n) ≡ 1
+unfolding count_trailing_zeros
+one_at zero n h = absurd (omega arith)
+one_at (suc k) n h = go (one_at k (n / 2)) (n % 2) refl h
+  where
+    go : (count_trailing_zeros k (n / 2) < k → bit_at (n / 2) (count_trailing_zeros k (n / 2)) ≡ 1) → (d : ℕ) → n % 2 ≡ d → under d (count_trailing_zeros k (n / 2)) < suc k → bit_at n (under d (count_trailing_zeros k (n / 2))) ≡ 1
+    go ih zero e h = bit_suc n (count_trailing_zeros k (n / 2)) ∙ ih (omega arith)
+    go ih (suc d) e h = bit_zero n ∙ omega arith
+
+-- the least bit that is set
+pub lowest_of : (word : ℕ) → Lowest word (count_trailing_zeros 64 word)
+lowest_of word =
+    record {
+      most = trailing_le 64 word;
+      before = zeros_below 64 word;
+      here = one_at 64 word;
+    }
 
 -- what setting and clearing do to each bit: by induction on the bit, the number is halved
 set_half : (n i : ℕ) → set_bit n (suc i) / 2 ≡ set_bit (n / 2) i
@@ -132,6 +144,10 @@ clear_other zero zero n f = absurd (f refl)
 clear_other zero (suc j) n f = bit_suc (clear_bit n 0) j ∙ ap (λ (x : ℕ). bit_at x j) (clear_zero_half n) ∙ sym (bit_suc n j)
 clear_other (suc i) zero n f = bit_zero (clear_bit n (suc i)) ∙ clear_low n i ∙ sym (bit_zero n)
 clear_other (suc i) (suc j) n f = bit_suc (clear_bit n (suc i)) j ∙ ap (λ (x : ℕ). bit_at x j) (clear_half n i) ∙ clear_other i j (n / 2) (λ e. f (ap suc e)) ∙ sym (bit_suc n j)
+
+-- a word stays a word
+pub set_lt : (i k n : ℕ) → i < k → n < 2 ^ k → set_bit n i < 2 ^ k
+set_lt i k n l h = rw (sym (or_pow n i)) (or_lt k n (2 ^ i) h (pow-lt l))
 
 -- a bit cleared makes the word no greater
 pub clear_le : (n i : ℕ) → clear_bit n i ≤ n

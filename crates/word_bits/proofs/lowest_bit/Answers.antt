@@ -1,6 +1,5 @@
 use Rattle.word_bits.proofs.Bits.{lowest_of}
-use native.Mathlib.Omega.{arith}
 use Rattle.word_bits.proofs.lowest_bit.Goals as goal
 
 pub returns : goal.returns
-returns c = lowest_of c.args.word (omega arith)
+returns c = lowest_of c.args.word
