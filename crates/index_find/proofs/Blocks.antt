@@ -54,12 +54,20 @@ module _ (k : ℕ) (h : List ℕ) where
   unfolding block_cells_of
   mid_cells = let e : 8192 * k + 8192 - 8192 * k ≡ 8192 = omega arith in rw e
 
+  pub mid_pages : take (4096 * k + 4096 - 4096 * k) (drop (4096 * k) h) ≡ block_pages_of k h
+  unfolding block_pages_of
+  mid_pages = let e : 4096 * k + 4096 - 4096 * k ≡ 4096 = omega arith in rw e
+
   -- and the whole when it is back
   pub put_block : (cells : List ℕ) → put_mid (8192 * k) (8192 * k + 8192 - 8192 * k) h cells ≡ with_block k cells h
   unfolding with_block
   put_block cells = let e : 8192 * k + 8192 - 8192 * k ≡ 8192 = omega arith in rw e
 
   module _ (fits : 8192 * k + 8192 ≤ length h) where
+    pub length_block : length (block_cells_of k h) ≡ 8192
+    unfolding block_cells_of
+    length_block = simp (length-take, length-drop) (omega arith)
+
     pub length_with : (cells : List ℕ) → length cells ≡ 8192 → length (with_block k cells h) ≡ length h
     unfolding with_block
     length_with cells e = simp (length-append, length-take, length-drop, e) (omega arith)

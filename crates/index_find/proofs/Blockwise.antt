@@ -1,11 +1,13 @@
 -- Turns of a lookup: one block's probe, and the blocks from the last down. Assumes nothing.
 use mathlib.Core.Path.{◌≡◌, refl, sym, ◌∙◌, ap}
-use mathlib.Core.Bool.{false, false≢true}
+use mathlib.Core.Bool.{false, false≢true, cond}
 use mathlib.Core.List.{List}
 use Prim.Native.Nat.{ℕ, zero, suc, ◌+◌, ◌-◌, ◌*◌, ◌<◌, ◌≤◌, min}
 use native.Mathlib.Omega.{arith}
-use lib.ListN.{length}
+use lib.ListN.{length, get_or}
+use borrow.Author.Tests.{le-leb, lt-leb}
 use Rattle.std.specs.Prelude.{Option, Some, None, is_some, IsSome}
+use Rattle.wal_types.specs.Settings.{within}
 use Rattle.index_hash.specs.Block.{probe, looked}
 use Rattle.index_find.proofs.Blocks.{length_visible}
 use Rattle.index_hash.proofs.Probed.{probe_below, probe_front}
@@ -45,6 +47,23 @@ probe_visible k n page ps hs part cells l e f =
 pub block_most : (k page n : ℕ) (hs : List ℕ) → looked_block k page n hs ≤ 8192
 block_most k page n hs = looked_cells (block_cells_of k hs) page (min (n - 4096 * k) 4096)
 
+module _ (k : ℕ) (frames : List ℕ) (low high : ℕ) (found : Option ℕ) (i : ℕ) (at : found ≡ Some i) where
+  abbrev frame : ℕ
+  frame = get_or frames (4096 * k + i) 0
+
+  here : looked_up k frames low high found ≡ cond (within low high frame) (Some frame) None
+  here = ap (looked_up k frames low high) at
+
+  -- an entry out of bounds: no frame
+  pub look_below : frame < low → None ≡ looked_up k frames low high found
+  look_below l = rw (here, lt-leb low frame l)
+
+  pub look_above : low ≤ frame → high < frame → None ≡ looked_up k frames low high found
+  look_above a l = rw (here, le-leb low frame a, lt-leb frame high l)
+
+  pub look_here : low ≤ frame → frame ≤ high → Some frame ≡ looked_up k frames low high found
+  look_here a l = rw (here, le-leb low frame a, le-leb frame high l)
+
 module _ (n : ℕ) (ps fs hs : List ℕ) (page low high : ℕ) where
   abbrev in_blocks : ℕ → Option ℕ
   in_blocks k = find_in k n ps fs hs page low high
@@ -72,6 +91,10 @@ module _ (n : ℕ) (ps fs hs : List ℕ) (page low high : ℕ) where
   pub block_passed : (k : ℕ) (r : Option ℕ) → 0 < k → r ≡ in_block (k - 1) → is_some r ≡ false → in_blocks (k - 1) ≡ in_blocks k
   block_passed k (Some f) l e g = absurd (false≢true (sym g))
   block_passed k None l e g = sym (last_block k None l e)
+
+  -- the block taken last is put back
+  pub block_back : (k : ℕ) → 0 < k → in_blocks (k - 1 + 1) ≡ in_blocks k
+  block_back k l = let e : k - 1 + 1 ≡ k = omega arith in ap in_blocks e
 
   pub blocks_done : (k : ℕ) → k ≤ 0 → None ≡ in_blocks k
   unfolding find_in
@@ -102,6 +125,10 @@ module _ (n : ℕ) (ps fs hs : List ℕ) (page low high : ℕ) where
 
     pub cells_passed : is_some r ≡ false → c + d + cells (k - 1) ≡ total
     cells_passed g = omega (arith, split, if_none_none r (cells (k - 1)) g)
+
+  -- the block taken last is put back
+  pub cells_back : (k c total : ℕ) → 0 < k → c + cells k ≡ total → c + cells (k - 1 + 1) ≡ total
+  cells_back k c total l e = let s : k - 1 + 1 ≡ k = omega arith in rw s e
 
   pub cells_done : (k c total : ℕ) → k ≤ 0 → c + cells k ≡ total → c ≡ total
   unfolding summed_in

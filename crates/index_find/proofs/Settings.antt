@@ -97,3 +97,12 @@ module _ (capacity b : ℕ) (h : Header) (pages frames hash : ℕ) (passed : ind
   entries_accepted =
       let e = first_false (bad_settings capacity b h) (short_index b pages frames hash) passed in
       rw (e.0, (or_false (short_entries b pages frames) (ltb hash (cells_for b)) e.1).0)
+
+-- and so of a call that is lent no hash: all entries below the length have their cells
+module _ (capacity b : ℕ) (h : Header) (pages frames : ℕ) (passed : entries_refusal capacity b h pages frames ≡ 0) where
+  pub passed_entries : (h.frame_index_len ≤ pages) × (h.frame_index_len ≤ frames)
+  passed_entries =
+      let e = first_false (bad_settings capacity b h) (short_entries b pages frames) passed in
+      let g = good_settings capacity b h e.0 in
+      let l = long_entries b pages frames e.1 in
+      (omega (arith, g.blocks_in_limit, g.len_in_blocks, l.pages_long), omega (arith, g.blocks_in_limit, g.len_in_blocks, l.frames_long))

@@ -5,7 +5,7 @@ use Prim.Native.Nat.{ℕ, zero, suc, ◌+◌, ◌<◌, ◌≤◌}
 use native.Mathlib.Numerals.{add-one}
 use native.Mathlib.Omega.{arith}
 use lib.ListN.{length, get_or, set, take, replicate, length-set, length-replicate}
-use lib.Seq.{get_or-take}
+use lib.Seq.{get_or-take, get_or-set_other}
 use Rattle.std.specs.Prelude.{Some}
 use Rattle.index_hash.specs.Block.{cleared, empty_cell, inserted, built}
 use Rattle.index_hash.proofs.Home.{cell_at_below}
@@ -39,6 +39,10 @@ built_agree pages pages' (suc n) same =
 -- so the first n of them give the same
 pub built_front : (pages : List ℕ) (n v : ℕ) → v ≤ n → built (take n pages) v ≡ built pages v
 built_front pages n v l = built_agree (take n pages) pages v (λ i b. get_or-take {A = ℕ} n pages i 0 (omega arith))
+
+-- a store at a place from n on changes nothing
+pub built_set : (pages : List ℕ) (n i page : ℕ) → n ≤ i → built (set pages i page) n ≡ built pages n
+built_set pages n i page l = built_agree (set pages i page) pages n (λ k b. get_or-set_other pages i k page 0 (λ e. absurd (omega arith)))
 
 zeros : (n c : ℕ) → get_or {A = ℕ} (replicate n 0) c 0 ≡ 0
 zeros zero c = refl

@@ -1,5 +1,5 @@
 -- Laws of a page's latest entry. Assumes nothing.
-use mathlib.Core.Path.{◌≡◌}
+use mathlib.Core.Path.{◌≡◌, refl}
 use mathlib.Core.List.{List}
 use Prim.Native.Nat.{ℕ, zero, suc, ◌+◌, ◌<◌, ◌≤◌}
 use mathlib.Core.Logic.{inl, inr}
@@ -21,6 +21,12 @@ latest_here pages page v e = rw (eq-eqb _ _ e)
 pub latest_other : (pages : List ℕ) (page v : ℕ) → (get_or pages v 0 ≡ page → ⊥) → latest_below pages page (suc v) ≡ latest_below pages page v
 unfolding latest_below
 latest_other pages page v e = rw (ne_eqb _ _ e)
+
+-- only the first v pages matter
+pub latest_agree : (pages pages' : List ℕ) (page v : ℕ) → ((i : ℕ) → i < v → get_or pages i 0 ≡ get_or pages' i 0) → latest_below pages page v ≡ latest_below pages' page v
+unfolding latest_below
+latest_agree pages pages' page zero same = refl
+latest_agree pages pages' page (suc v) same = rw (same v (omega arith), latest_agree pages pages' page v (λ i l. same i (omega arith)))
 
 -- no place from k on and below v has the page
 abbrev pub NoneFrom : List ℕ → ℕ → ℕ → ℕ → Type 0

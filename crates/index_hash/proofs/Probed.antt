@@ -6,7 +6,7 @@ use Prim.Native.Nat.{ℕ, zero, suc, ◌-◌, ◌<◌}
 use lib.Dec.{eqb, ltb}
 use lib.ListN.{length, get_or, take}
 use lib.Seq.{get_or-take}
-use borrow.Author.Tests.{ltb-true}
+use borrow.Author.Tests.{eqb-true, ltb-true}
 use Rattle.std.specs.Prelude.{Option, Some, None}
 use Rattle.index_hash.specs.Home.{home, next_cell}
 use Rattle.index_hash.specs.Block.{probe_from, probe}
@@ -28,20 +28,28 @@ unfolding probe
 probe_front h pages page v n l e = rw e (probe_same h (take v pages) pages page v (λ i b. get_or-take {A = ℕ} v pages i 0 b) 8192 (home page) None)
 
 module _ (h pages : List ℕ) (page visible : ℕ) where
-  -- an answer is a visible place
-  abbrev Visible : Option ℕ → Type 0
-  Visible (Some i) = i < visible
-  Visible None = Unit
+  -- an answer names a visible entry of the page
+  abbrev Fine : Option ℕ → Type 0
+  Fine (Some i) = (i < visible) × (get_or pages i 0 ≡ page)
+  Fine None = Unit
 
-  visible_from : (m cell : ℕ) (latest : Option ℕ) → Visible latest → Visible (probe_from m h pages page visible cell latest)
+  fine_from : (m cell : ℕ) (latest : Option ℕ) → Fine latest → Fine (probe_from m h pages page visible cell latest)
   unfolding probe_from
-  visible_from zero cell latest f = f
-  visible_from (suc m) cell latest f =
-      by_test Visible (eqb (get_or h cell 0) 0) (λ t. f)
-      (λ t. by_test Visible (ltb (get_or h cell 0 - 1) visible)
-      (λ s. visible_from m (next_cell cell) _ (by_test Visible (eqb (get_or pages (get_or h cell 0 - 1) 0) page) (λ e. ltb-true _ _ s) (λ e. f)))
+  fine_from zero cell latest f = f
+  fine_from (suc m) cell latest f =
+      by_test Fine (eqb (get_or h cell 0) 0) (λ t. f)
+      (λ t. by_test Fine (ltb (get_or h cell 0 - 1) visible)
+      (λ s. fine_from m (next_cell cell) _ (by_test Fine (eqb (get_or pages (get_or h cell 0 - 1) 0) page) (λ e. (ltb-true _ _ s, eqb-true _ _ e)) (λ e. f)))
       (λ s. f))
 
-  pub probe_below : (i : ℕ) → probe h pages page visible ≡ Some i → i < visible
+  fine : Fine (probe h pages page visible)
   unfolding probe
-  probe_below i e = subst Visible e (visible_from 8192 (home page) None tt)
+  fine = fine_from 8192 (home page) None tt
+
+  -- the answer is below the visible length
+  pub probe_below : (i : ℕ) → probe h pages page visible ≡ Some i → i < visible
+  probe_below i e = (subst Fine e fine).0
+
+  -- and is an entry of the page
+  pub probe_page : (i : ℕ) → probe h pages page visible ≡ Some i → get_or pages i 0 ≡ page
+  probe_page i e = (subst Fine e fine).1

@@ -18,12 +18,23 @@ bit_shifted : (n i j : ℕ) → bit_at (n / 2 ^ i) j ≡ bit_at n (i + j)
 unfolding bit_at
 bit_shifted n i j = ap (λ (x : ℕ). x % 2) (shr-shr n i j)
 
--- so what its lowest bits are, those of a row of words from there on are
-pub clear_shifted : (row : List ℕ) (word first t : ℕ) → first + t ≤ 64 → ((j : ℕ) → j < t → bit_at (get_or row word 0 / 2 ^ first) j ≡ 0) → All (Clear row) (64 * word + first) (64 * word + (first + t))
-clear_shifted row word first t l low k x y =
-    let q : k / 64 ≡ word = omega arith in
-    let r : k % 64 ≡ first + (k - (64 * word + first)) = omega arith in
-    rw (q, r) (sym (bit_shifted (get_or row word 0) first (k - (64 * word + first))) ∙ low (k - (64 * word + first)) (omega arith))
+-- so what its lowest bits are, those from i on are
+pub clear_shifted : (word i t : ℕ) → ((j : ℕ) → j < t → bit_at (word / 2 ^ i) j ≡ 0) → All (λ k. bit_at word k ≡ 0) i (i + t)
+clear_shifted word i t low k x y =
+    let e : i + (k - i) ≡ k = omega arith in
+    let s : bit_at word (i + (k - i)) ≡ 0 = sym (bit_shifted word i (k - i)) ∙ low (k - i) (omega arith) in
+    rw e at s
+
+-- the bits of a word, in a row of words
+pub cells_clear : (row : List ℕ) (w a b : ℕ) → b ≤ 64 → All (λ k. bit_at (get_or row w 0) k ≡ 0) a b → All (Clear row) (64 * w + a) (64 * w + b)
+cells_clear row w a b l all c x y =
+    let q : c / 64 ≡ w = omega arith in
+    let r : c % 64 ≡ c - 64 * w = omega arith in
+    rw (q, r) (all (c - 64 * w) (omega arith) (omega arith))
+
+-- so what the lowest bits of a shifted word are, those of the row from there on are
+pub row_shifted : (row : List ℕ) (word first t : ℕ) → first + t ≤ 64 → ((j : ℕ) → j < t → bit_at (get_or row word 0 / 2 ^ first) j ≡ 0) → All (Clear row) (64 * word + first) (64 * word + (first + t))
+row_shifted row word first t l low = cells_clear row word first (first + t) l (clear_shifted (get_or row word 0) first t low)
 
 -- a way straight on
 pub way_on : (P : ℕ → Type 0) (size from to : ℕ) → from ≤ to → All P from to → Way P size from to

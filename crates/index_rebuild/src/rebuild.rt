@@ -76,6 +76,19 @@ impl Rebuild<'_> {
         self.next = end;
     }
 
+    // Inserts the next entry, however far from its home it ends.
+    #[tactic(auto, using(index_hash::proofs::Built::built_more))]
+    fn insert_far(&mut self)
+        requires { self.old.next < length self.old.pages.now }
+        ensures { SameBlock self.old self.new }
+    {
+        let local_index = self.next;
+        let page_id = self.pages[local_index];
+        let hash = &mut *self.hash;
+        insert_frame_index_block_hash(hash, local_index, page_id);
+        self.next = local_index + 1;
+    }
+
     // Inserts the entries that are left by the map, by number too.
     #[tactic(auto, using(index_hash::proofs::Empty::found_below, index_hash::proofs::Used::room_left, index_hash::proofs::Built::built_cells))]
     fn insert_by_map(&mut self)
@@ -109,13 +122,15 @@ impl Rebuild<'_> {
         MANY_DISPLACED / self.pages.len() <= displaced
     }
 
-    // Inserts the entries that are left; once FAR_ENTRIES have been far from their homes, the rest goes by the map.
+    // Inserts the entries that are left; once FAR_ENTRIES have been far from their homes, the rest goes by the map. (The
+    // last of these stands apart: another way out of the loop of insert_near costs each near entry two instructions.)
     fn insert_all(&mut self)
         ensures { SameBlock self.old self.new × (self.new.next ≡ length self.old.pages.now) }
     {
         let end = self.pages.len();
-        self.insert_near(end, FAR_ENTRIES);
+        self.insert_near(end, FAR_ENTRIES - 1);
         if self.next < end {
+            self.insert_far();
             self.insert_by_map();
         }
     }

@@ -281,27 +281,38 @@ module _ (h pages : List ℕ) (page : ℕ) where
       let k : length (take n h) ≡ n = simp length-take (omega arith) in
       rw k (met_same (take n h) 0 n before (λ c b. let e : 0 + c ≡ c = omega arith in rw e (get_or-take {A = ℕ} n h c 0 b)))
 
-  module _ (before : Option ℕ) where
+  module _ (from : ℕ) (before : Option ℕ) where
     -- a run that ends before cells that tell nothing tells the same
-    pub met_passed : (rest end : ℕ) → rest ≤ end → All (Other h pages page) rest end → met_in h pages page 0 rest before ≡ met_in h pages page 0 end before
-    met_passed rest end u others =
-        let at : 0 + rest ≡ rest = omega arith in
+    pub met_passed : (rest end : ℕ) → from ≤ rest → rest ≤ end → All (Other h pages page) rest end → met_in h pages page from (rest - from) before ≡ met_in h pages page from (end - from) before
+    met_passed rest end l u others =
+        let at : from + (rest - from) ≡ rest = omega arith in
         let to : rest + (end - rest) ≡ end = omega arith in
-        sym (rw to at (met_skip 0 rest (end - rest) before (rw (at, to) others)))
+        let n : rest - from + (end - rest) ≡ end - from = omega arith in
+        sym (rw n at (met_skip from (rest - from) (end - rest) before (rw (at, to) others)))
 
     -- the page's entry that the last cell of a run names
-    pub met_last : (n : ℕ) → 0 < n → page_named h pages (n - 1) ≡ page → Some (get_or h (n - 1) 0 - 1) ≡ met_in h pages page 0 n before
+    pub met_last : (rest : ℕ) → from < rest → page_named h pages (rest - 1) ≡ page → Some (get_or h (rest - 1) 0 - 1) ≡ met_in h pages page from (rest - from) before
     unfolding met_in
-    met_last zero l e = absurd (omega arith)
-    met_last (suc n) l e =
-        let last : suc n - 1 ≡ n = omega arith in
-        let at : 0 + n ≡ n = omega arith in
-        rw (last, at, eq-eqb _ _ (rw last at e))
+    met_last rest l e =
+        let n : rest - from ≡ suc (rest - 1 - from) = omega arith in
+        let at : from + (rest - 1 - from) ≡ rest - 1 = omega arith in
+        rw n (rw (at, eq-eqb _ _ e))
 
     -- no cells tell what was met before
-    pub met_nothing : (n : ℕ) → n ≡ 0 → before ≡ met_in h pages page 0 n before
+    pub met_nothing : (n : ℕ) → n ≡ 0 → before ≡ met_in h pages page from n before
     unfolding met_in
     met_nothing n e = rw e
+
+  -- the first two of a run from the first cell on
+  module _ (before : Option ℕ) where
+    pub front_passed : (rest end : ℕ) → rest ≤ end → All (Other h pages page) rest end → met_in h pages page 0 rest before ≡ met_in h pages page 0 end before
+    front_passed rest end u others =
+        let at : rest - 0 ≡ rest = omega arith in
+        let to : end - 0 ≡ end = omega arith in
+        rw (at, to) at (met_passed 0 before rest end (omega arith) u others)
+
+    pub front_last : (n : ℕ) → 0 < n → page_named h pages (n - 1) ≡ page → Some (get_or h (n - 1) 0 - 1) ≡ met_in h pages page 0 n before
+    front_last n l e = let at : n - 0 ≡ n = omega arith in rw at at (met_last 0 before n l e)
 
 -- live cells are used
 pub live_used : (h : List ℕ) (visible from to : ℕ) → All (Live h visible) from to → All (Used h) from to

@@ -8,6 +8,7 @@ use native.Mathlib.Omega.{arith}
 use lib.Dec.{eqb, leb}
 use lib.ListN.{length, get_or, take, drop}
 use Rattle.std.proofs.lemmas.Bool.{leb-true}
+use borrow.Author.Tests.{eqb-true, eqb-false, leb-false, not-true}
 use lib.Seq.{get_or-take, get_or-drop, take-take, get_or-append_seam, take-append_seam}
 use Rattle.std.specs.Prelude.{Option, Some}
 use Rattle.std.specs.List.{fold}
@@ -16,7 +17,7 @@ use Rattle.std.proofs.lemmas.Fn.{serves_by}
 use Rattle.std.proofs.lemmas.Iterator.{YieldsList}
 use Rattle.std.proofs.lemmas.Iterator.Consumers.{YieldsList-turn}
 use Rattle.std.specs.Simd.{first_chunks}
-use Rattle.index_search.specs.InnerRun.{All, Live, Other}
+use Rattle.index_search.specs.InnerRun.{All, Live, page_named, Other}
 
 pub one_at_least : (x : ℕ) → (x ≡ 0 → ⊥) → 1 ≤ x
 one_at_least zero f = absurd (f refl)
@@ -29,6 +30,14 @@ all_join P from mid to a b c l u = go (dec_lt c mid)
     go : Dec (c < mid) → P c
     go (yes e) = a c l e
     go (no e) = b c (omega arith) u
+
+-- one number
+pub all_one : (P : ℕ → Type 0) (c : ℕ) → P c → All P c (c + 1)
+all_one P c p k l u = let e : k ≡ c = omega arith in rw e p
+
+-- none
+pub all_none : (P : ℕ → Type 0) (c : ℕ) → All P c c
+all_none P c k l u = absurd (omega arith)
 
 -- a part of it
 pub all_within : (P : ℕ → Type 0) (from to from' to' : ℕ) → from ≤ from' → to' ≤ to → All P from to → All P from' to'
@@ -53,6 +62,19 @@ module _ (test : ℕ → Bool) (P : ℕ → Type 0) (tells : (x : ℕ) → test 
 pub live_seen : (visible x : ℕ) → (not (eqb x 0) && leb x visible) ≡ true → (1 ≤ x) × (x ≤ visible)
 live_seen visible zero e = absurd (false≢true e)
 live_seen visible (suc x) e = let s = both (not (eqb (suc x) 0)) (leb (suc x) visible) e in (omega arith, leb-true (suc x) visible s.1)
+
+-- and one seen not to be
+pub live_unseen : (h : List ℕ) (visible c : ℕ) → (not (eqb (get_or h c 0) 0) && leb (get_or h c 0) visible) ≡ false → Live h visible c → ⊥
+live_unseen h visible c e l = go (eqb (get_or h c 0) 0) (leb (get_or h c 0) visible) refl refl e
+  where
+    go : (a b : Bool) → eqb (get_or h c 0) 0 ≡ a → leb (get_or h c 0) visible ≡ b → (not a && b) ≡ false → ⊥
+    go true b p q f = let z = eqb-true (get_or h c 0) 0 p in absurd (omega (arith, l.0))
+    go false true p q f = false≢true (sym f)
+    go false false p q f = let z = leb-false (get_or h c 0) visible q in absurd (omega (arith, l.1))
+
+-- a cell seen to name another page's entry
+pub other_seen : (h pages : List ℕ) (page c : ℕ) → not (eqb (page_named h pages c) page) ≡ true → Other h pages page c
+other_seen h pages page c e = eqb-false _ _ (not-true _ e)
 
 -- a fold may call its closure where the closure may be called at each of the list's items and changes nothing that it holds
 pub callable_in_fold : {S A B F T : Type 0} {steps : S → Option A → S → Type 0} {v : A → B} {s : S} {all : List B} → YieldsList steps v s all → {R : F × T → A → F × T → Type 0} {Q : F × T → A → Type 0} {f : F} {a : T}
