@@ -1,16 +1,18 @@
-// The header's cells that tell where the index ends, apart from the rest of it.
-ghost use Rattle.std.specs.Prelude.{◌≡◌, ◌+◌, ◌<◌};
+// The header's cells that a record works on, apart from the rest of it.
+ghost use Rattle.std.specs.Prelude.{◌≡◌, ◌+◌, ◌<◌, false};
 ghost use Rattle.wal_types.specs.Memory.{frame_index_len_cell, frame_index_overflowed_cell};
 ghost use Rattle.index_end.specs.Cells.{cells_of, cells_with, with_cells};
+ghost use Rattle.index_end.specs.InnerChange.{cells_change};
 
 use wal_types::Header;
 
-// What a record works out before it stores.
+// What a record works out before it stores. The published frame, max_frame, is only read.
 #[derive(Clone, Copy)]
 pub struct IndexCells {
     pub frame_index_blocks: u32,
     pub frame_index_len: u32,
     pub frame_index_overflowed: u32,
+    pub max_frame: u64,
 }
 
 impl From<Header> for IndexCells {
@@ -21,12 +23,23 @@ impl From<Header> for IndexCells {
             frame_index_blocks: header.frame_index_blocks,
             frame_index_len: header.frame_index_len,
             frame_index_overflowed: header.frame_index_overflowed,
+            max_frame: header.max_frame,
         }
     }
 }
 
+// Whether the header with these cells in it is another one. Where it is not, there is nothing to store.
+#[tactic(auto, using(crate::proofs::Change::told))]
+pub fn cells_change(header: Header, cells: IndexCells) -> bool
+    ensures { (result ≡ cells_change cells header) × (result ≡ false → with_cells cells header ≡ header) }
+{
+    cells.frame_index_len != header.frame_index_len
+        || cells.frame_index_overflowed != header.frame_index_overflowed
+        || cells.frame_index_blocks != header.frame_index_blocks
+}
+
 impl IndexCells {
-    // They go into the header.
+    // They go into the header, but for the published frame.
     pub fn put_in(self, header: &mut Header)
         ensures { header.new ≡ with_cells self header.old }
     {
@@ -40,10 +53,7 @@ impl IndexCells {
     pub fn put_changes_in(self, header: &mut Header)
         ensures { header.new ≡ with_cells self header.old }
     {
-        if self.frame_index_len != header.frame_index_len
-            || self.frame_index_overflowed != header.frame_index_overflowed
-            || self.frame_index_blocks != header.frame_index_blocks
-        {
+        if cells_change(*header, self) {
             self.put_in(header);
         }
     }

@@ -92,7 +92,7 @@ is_3_2 =
 module _ (m : Memory) (n : ℕ) (fresh : Fresh 1 1 n m) (long : LongMemory 1 m) (p : Process) where
   -- the index's cells with so many entries
   abbrev cells_at : ℕ → IndexCells
-  cells_at len = record { frame_index_blocks = 1; frame_index_len = len; frame_index_overflowed = 0 }
+  cells_at len = record { frame_index_blocks = 1; frame_index_len = len; frame_index_overflowed = 0; max_frame = m.header.max_frame }
 
   abbrev m1 : Memory
   m1 = with_entry 7 1 m (cells_at 0)

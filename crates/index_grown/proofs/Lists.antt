@@ -84,6 +84,11 @@ module _ (page low high : ℕ) where
   greatest_none [] none = refl
   greatest_none (q ∷ l) none = rw (none q (Memᴰ.head refl)) (greatest_none l (λ r m. none r (Memᴰ.tail m)))
 
+  -- BOUNDS: pairs above the upper bound, added at the end, change nothing
+  pub greatest_past : (es more : List Pair) → Each (λ q. high < q.frame) more → greatest (es ++ more) page low high ≡ greatest es page low high
+  greatest_past es more above =
+      greatest_append es more ∙ (ap (higher (greatest es page low high)) (greatest_none more (λ q m. frame_above page low high q (above q m))) ∙ higher_none (greatest es page low high))
+
   -- bounds in the wrong order: none
   pub greatest_crossed : high < low → (l : List Pair) → greatest l page low high ≡ None
   greatest_crossed c l = greatest_none l (λ q m. go q (dec_le low q.frame))

@@ -212,6 +212,14 @@ module _ (capacity b page frame : ℕ) (grow : Bool) (m : Memory) (p : Process) 
       (λ passed e. record { same_published = refl; same_bitmap = refl; same_reader_frames = refl; same_reader_owners = refl })
       (λ g passed e o. record { same_published = refl; same_bitmap = refl; same_reader_frames = refl; same_reader_owners = refl })
 
+  -- a stored record's frame is above that of every entry that it found
+  pub record_above : call_done.answer ≡ stored → Each (λ q. q.frame < frame) (entries_found frame m)
+  record_above =
+      record_cases (λ d. d.answer ≡ stored → Each (λ q. q.frame < frame) (entries_found frame m))
+      (λ n i e. let z : ◌≡◌ {A = ℕ} 0 1 = cc in absurd (omega arith))
+      (λ passed e q. let z : ◌≡◌ {A = ℕ} 0 1 = cc in absurd (omega arith))
+      (λ g passed e o q. entry_above g e passed o)
+
   -- NEVER FULL: no record on a grown index is refused with 4
   pub record_never_full : call_done.answer ≡ refused 4 → ⊥
   record_never_full =

@@ -13,7 +13,7 @@ use Rattle.std.specs.Prelude.{Option, Some, None}
 use Rattle.index_find.specs.Index.{index_refusal, HasRoom}
 use Rattle.index_end.specs.Cells.{cells_of, cells_with}
 use Rattle.index_end.specs.Place.{resets, started, blocks_full, placed}
-use Rattle.index_find.proofs.Settings.{passed_settings, passed_long}
+use Rattle.index_find.proofs.Settings.{GoodSettings, LongEnough, passed_settings, passed_long}
 
 module _ (frame : ℕ) (h : Header) where
   -- a reset leaves the blocks, and makes the length no greater
@@ -58,6 +58,16 @@ at_end_by capacity b grow s g false no_more false l f n e i j =
 pub place_found : (capacity b frame : ℕ) (grow : Bool) (h : Header) (s : IndexCells) (r place : Option IndexCells) → s ≡ started frame h → r ≡ placed capacity b grow s → r ≡ place → placed capacity b grow (started frame h) ≡ place
 place_found capacity b frame grow h s r place es er ep = ap (placed capacity b grow) (sym es) ∙ (sym er ∙ ep)
 
+-- a place has room in memory that is long enough
+pub place_room : (capacity b frame : ℕ) (grow : Bool) (h : Header) (g : IndexCells) (pages frames hash : ℕ) → GoodSettings capacity b h → LongEnough b pages frames hash → placed capacity b grow (started frame h) ≡ Some g → HasRoom g.frame_index_len pages frames hash
+unfolding placed
+place_room capacity b frame grow h g pages frames hash good long e =
+    let s = started frame h in
+    let sb = started_blocks frame h in
+    let sl = started_len frame h in
+    let r = at_end_by capacity b grow (started frame h) g _ _ _ refl refl refl e (omega arith) (omega arith) in
+    record { below_most = omega arith; page_room = omega arith; frame_room = omega arith; hash_room = omega arith }
+
 module _ (capacity b frame : ℕ) (h : Header) (pages frames hash : ℕ) (passed : index_refusal capacity b h pages frames hash ≡ 0) where
   -- what the search for a place asks
   pub place_asks : (s : IndexCells) → s ≡ started frame h → (s.frame_index_blocks ≤ b) × (b ≤ 16)
@@ -66,14 +76,7 @@ module _ (capacity b frame : ℕ) (h : Header) (pages frames hash : ℕ) (passed
       let blocks = ap (λ (x : IndexCells). x.frame_index_blocks) e ∙ started_blocks frame h in
       (omega (arith, blocks), omega arith)
 
-  -- a place has room in the lent parts
-  pub place_room : (grow : Bool) (g : IndexCells) → placed capacity b grow (started frame h) ≡ Some g → HasRoom g.frame_index_len pages frames hash
-  unfolding placed
-  place_room grow g e =
-      let good = passed_settings capacity b h pages frames hash passed in
-      let long = passed_long capacity b h pages frames hash passed in
-      let s = started frame h in
-      let sb = started_blocks frame h in
-      let sl = started_len frame h in
-      let r = at_end_by capacity b grow (started frame h) g _ _ _ refl refl refl e (omega arith) (omega arith) in
-      record { below_most = omega arith; page_room = omega arith; frame_room = omega arith; hash_room = omega arith }
+  -- so a place has room in the lent parts
+  pub passed_room : (grow : Bool) (g : IndexCells) → placed capacity b grow (started frame h) ≡ Some g → HasRoom g.frame_index_len pages frames hash
+  passed_room grow g e =
+      place_room capacity b frame grow h g pages frames hash (passed_settings capacity b h pages frames hash passed) (passed_long capacity b h pages frames hash passed) e

@@ -9,7 +9,7 @@ use native.Mathlib.Numerals.{add-one}
 use native.Mathlib.Omega.{arith}
 use lib.Dec.{eqb, ltb}
 use lib.ListN.{length, get_or}
-use borrow.Author.Tests.{eq-eqb, ne_eqb, eqb-true, eqb-false, ltb-true, ltb-false}
+use borrow.Author.Tests.{eq-eqb, ne_eqb, eqb-true, eqb-false, le-ltb, lt-ltb, ltb-true, ltb-false}
 use Rattle.wal_types.specs.declared.Header.{Header}
 use Rattle.wal_types.specs.declared.refusal.Refusal.{Refusal}
 use Rattle.wal_types.specs.Refusal.{number}
@@ -60,6 +60,17 @@ module _ (to : ℕ) where
           let u : g ≤ f = ltb-false _ _ ec in
           (omega arith, λ t. omega arith)
       go false false c ea eb ec e = let l : distance to g ≤ distance to f = ltb-false _ _ ea in (omega arith, λ t. absurd (eqb-false (distance to f) (distance to g) eb (sym t)))
+
+-- the test, by which is nearer
+module _ (to f g : ℕ) where
+  pub nearer_test : distance to f < distance to g → true ≡ is_nearer to f g
+  nearer_test l = rw (lt-ltb _ _ l)
+
+  pub farther_test : distance to g < distance to f → false ≡ is_nearer to f g
+  farther_test l = rw (le-ltb (distance to f) (distance to g) (omega arith), ne_eqb (distance to f) (distance to g) (λ e. omega arith))
+
+  pub tie_test : distance to g ≤ distance to f → distance to f ≤ distance to g → ltb f g ≡ is_nearer to f g
+  tie_test l u = rw (le-ltb _ _ l, eq-eqb (distance to f) (distance to g) (omega arith))
 
 -- a list's pairs are one more than another's: what that one gives, and the others'
 pub record Joins (page : ℕ) (x : Option ℕ) (l k : List Pair) : Type 0 where

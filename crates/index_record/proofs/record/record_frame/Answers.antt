@@ -7,7 +7,7 @@ use Rattle.index_end.proofs.Turns.{order_front}
 use Rattle.index_record.proofs.Entered.{length_cleared, first_hash, first_named}
 use Rattle.index_find.proofs.Blocks.{length_with}
 use lib.Seq.{length-take-le}
-use Rattle.index_record.proofs.Placed.{place_found, place_asks, place_room}
+use Rattle.index_record.proofs.Placed.{place_found, place_asks, passed_room}
 use Rattle.index_record.proofs.Recorded.{record_refused, record_dropped, record_out_of_order, record_full, record_first, record_next}
 use Rattle.index_record.proofs.record.record_frame.Goals as goal
 
@@ -32,14 +32,14 @@ pub slice_bounds-is_out_of_order-end : goal.slice_bounds-is_out_of_order-end
 slice_bounds-is_out_of_order-end c =
     let a = c.args in
     let at_end = place_found _ _ _ _ _ _ _ _ c.started_cells-start.ensures c.place_entry.ensures c.in-Some.is in
-    let r = place_room a.settings.capacity a.settings.max_blocks a.frame_id a.header.now (length a.pages.now) (length a.frames.now) (length a.hash.now) (sym c.in_ok-check_index.ensures) a.grow _ at_end in
+    let r = passed_room a.settings.capacity a.settings.max_blocks a.frame_id a.header.now (length a.pages.now) (length a.frames.now) (length a.hash.now) (sym c.in_ok-check_index.ensures) a.grow _ at_end in
     omega (arith, r.frame_room)
 
 pub slice_bounds-is_out_of_order-end-2 : goal.slice_bounds-is_out_of_order-end-2
 slice_bounds-is_out_of_order-end-2 c =
     let a = c.args in
     let at_end = place_found _ _ _ _ _ _ _ _ c.started_cells-start.ensures c.place_entry.ensures c.in-Some.is in
-    let r = place_room a.settings.capacity a.settings.max_blocks a.frame_id a.header.now (length a.pages.now) (length a.frames.now) (length a.hash.now) (sym c.in_ok-check_index.ensures) a.grow _ at_end in
+    let r = passed_room a.settings.capacity a.settings.max_blocks a.frame_id a.header.now (length a.pages.now) (length a.frames.now) (length a.hash.now) (sym c.in_ok-check_index.ensures) a.grow _ at_end in
     sym (length-take-le _ a.frames.now (omega (arith, r.frame_room)))
 
 pub returns-then-is_out_of_order : goal.returns-then-is_out_of_order
@@ -47,7 +47,7 @@ returns-then-is_out_of_order c z p =
     let a = c.args in
     let passed = sym c.in_ok-check_index.ensures in
     let at_end = place_found _ _ _ _ _ _ _ _ c.started_cells-start.ensures c.place_entry.ensures c.in-Some.is in
-    let r = place_room a.settings.capacity a.settings.max_blocks a.frame_id a.header.now (length a.pages.now) (length a.frames.now) (length a.hash.now) passed a.grow _ at_end in
+    let r = passed_room a.settings.capacity a.settings.max_blocks a.frame_id a.header.now (length a.pages.now) (length a.frames.now) (length a.hash.now) passed a.grow _ at_end in
     let order = sym (order_front a.frames.now _ (omega (arith, r.frame_room)) a.frame_id) ∙ (sym c.is_out_of_order.ensures ∙ c.if-is_out_of_order.true) in
     record_out_of_order a.settings.capacity a.settings.max_blocks a.page_id a.frame_id a.grow z a.header.now a.pages.now a.frames.now a.hash.now p passed _ at_end order
 
@@ -56,7 +56,7 @@ clear_block-requires c =
     let a = c.args in
     let passed = sym c.in_ok-check_index.ensures in
     let at_end = place_found _ _ _ _ _ _ _ _ c.started_cells-start.ensures c.place_entry.ensures c.in-Some.is in
-    let r = place_room a.settings.capacity a.settings.max_blocks a.frame_id a.header.now (length a.pages.now) (length a.frames.now) (length a.hash.now) passed a.grow _ at_end in
+    let r = passed_room a.settings.capacity a.settings.max_blocks a.frame_id a.header.now (length a.pages.now) (length a.frames.now) (length a.hash.now) passed a.grow _ at_end in
     r.hash_room
 
 pub enter-requires : goal.enter-requires
@@ -64,7 +64,7 @@ enter-requires c =
     let a = c.args in
     let passed = sym c.in_ok-check_index.ensures in
     let at_end = place_found _ _ _ _ _ _ _ _ c.started_cells-start.ensures c.place_entry.ensures c.in-Some.is in
-    let r = place_room a.settings.capacity a.settings.max_blocks a.frame_id a.header.now (length a.pages.now) (length a.frames.now) (length a.hash.now) passed a.grow _ at_end in
+    let r = passed_room a.settings.capacity a.settings.max_blocks a.frame_id a.header.now (length a.pages.now) (length a.frames.now) (length a.hash.now) passed a.grow _ at_end in
     (rw (c.clear_block.ensures, length_with _ a.hash.now r.hash_room _ length_cleared) r, c.hash_page_id-home.ensures.1)
 
 pub returns-then-n-eq0 : goal.returns-then-n-eq0
@@ -72,7 +72,7 @@ returns-then-n-eq0 c z p =
     let a = c.args in
     let passed = sym c.in_ok-check_index.ensures in
     let at_end = place_found _ _ _ _ _ _ _ _ c.started_cells-start.ensures c.place_entry.ensures c.in-Some.is in
-    let r = place_room a.settings.capacity a.settings.max_blocks a.frame_id a.header.now (length a.pages.now) (length a.frames.now) (length a.hash.now) passed a.grow _ at_end in
+    let r = passed_room a.settings.capacity a.settings.max_blocks a.frame_id a.header.now (length a.pages.now) (length a.frames.now) (length a.hash.now) passed a.grow _ at_end in
     let order = sym (order_front a.frames.now _ (omega (arith, r.frame_room)) a.frame_id) ∙ (sym c.is_out_of_order.ensures ∙ c.if-is_out_of_order.false) in
     let n = c.in-Some.grown.frame_index_len in
     let cleared = first_hash (block_of n) c.hash_page_id-home.result (place_of n + 1) a.hash.now _ r.hash_room c.clear_block.ensures in
@@ -85,7 +85,7 @@ cell_in_block-requires c =
     let a = c.args in
     let passed = sym c.in_ok-check_index.ensures in
     let at_end = place_found _ _ _ _ _ _ _ _ c.started_cells-start.ensures c.place_entry.ensures c.in-Some.is in
-    let r = place_room a.settings.capacity a.settings.max_blocks a.frame_id a.header.now (length a.pages.now) (length a.frames.now) (length a.hash.now) passed a.grow _ at_end in
+    let r = passed_room a.settings.capacity a.settings.max_blocks a.frame_id a.header.now (length a.pages.now) (length a.frames.now) (length a.hash.now) passed a.grow _ at_end in
     r.hash_room
 
 pub returns-in_default-cell_in_block : goal.returns-in_default-cell_in_block
@@ -93,7 +93,7 @@ returns-in_default-cell_in_block c z p =
     let a = c.args in
     let passed = sym c.in_ok-check_index.ensures in
     let at_end = place_found _ _ _ _ _ _ _ _ c.started_cells-start.ensures c.place_entry.ensures c.in-Some.is in
-    let r = place_room a.settings.capacity a.settings.max_blocks a.frame_id a.header.now (length a.pages.now) (length a.frames.now) (length a.hash.now) passed a.grow _ at_end in
+    let r = passed_room a.settings.capacity a.settings.max_blocks a.frame_id a.header.now (length a.pages.now) (length a.frames.now) (length a.hash.now) passed a.grow _ at_end in
     let order = sym (order_front a.frames.now _ (omega (arith, r.frame_room)) a.frame_id) ∙ (sym c.is_out_of_order.ensures ∙ c.if-is_out_of_order.false) in
     record_full a.settings.capacity a.settings.max_blocks a.page_id a.frame_id a.grow z a.header.now a.pages.now a.frames.now a.hash.now p passed _ at_end order c.if-n-eq0.false (sym c.cell_in_block.ensures ∙ c.in_default-cell_in_block.is)
 
@@ -102,7 +102,7 @@ enter-requires-2 c =
     let a = c.args in
     let passed = sym c.in_ok-check_index.ensures in
     let at_end = place_found _ _ _ _ _ _ _ _ c.started_cells-start.ensures c.place_entry.ensures c.in-Some.is in
-    let r = place_room a.settings.capacity a.settings.max_blocks a.frame_id a.header.now (length a.pages.now) (length a.frames.now) (length a.hash.now) passed a.grow _ at_end in
+    let r = passed_room a.settings.capacity a.settings.max_blocks a.frame_id a.header.now (length a.pages.now) (length a.frames.now) (length a.hash.now) passed a.grow _ at_end in
     (r, found_below _ _ _ (sym c.cell_in_block.ensures ∙ c.in-Some-cell_in_block.is))
 
 pub returns : goal.returns
@@ -110,7 +110,7 @@ returns c z p =
     let a = c.args in
     let passed = sym c.in_ok-check_index.ensures in
     let at_end = place_found _ _ _ _ _ _ _ _ c.started_cells-start.ensures c.place_entry.ensures c.in-Some.is in
-    let r = place_room a.settings.capacity a.settings.max_blocks a.frame_id a.header.now (length a.pages.now) (length a.frames.now) (length a.hash.now) passed a.grow _ at_end in
+    let r = passed_room a.settings.capacity a.settings.max_blocks a.frame_id a.header.now (length a.pages.now) (length a.frames.now) (length a.hash.now) passed a.grow _ at_end in
     let order = sym (order_front a.frames.now _ (omega (arith, r.frame_room)) a.frame_id) ∙ (sym c.is_out_of_order.ensures ∙ c.if-is_out_of_order.false) in
     let e = c.enter-2.ensures in
     rw (e.header_is, e.pages_are, e.frames_are, e.hash_is)
