@@ -6,7 +6,7 @@
 // through that the choice drops after the sort; it cannot leave a page out. That is why the contract says no more than each
 // page's first. An exact table would need room for 65,536 pages, cleared at every call. Without the guesses a list over 65,536
 // entries of 100 pages took three times as long; where all pages differ, as long as with them.
-ghost use Rattle.std.specs.Prelude.{◌≡◌, false, ◌||◌, List, ◌∷◌, ℕ, ◌+◌, ◌*◌, ◌<◌, ◌≤◌, min, length, get_or, take};
+ghost use Rattle.std.specs.Prelude.{◌≡◌, ◌⊎◌, false, ◌||◌, List, [], ◌∷◌, ◌++◌, ℕ, ◌+◌, ◌*◌, ◌<◌, ◌≤◌, min, length, get_or, take};
 ghost use Rattle.wal_types.specs.Settings.{block_entries, block_cells};
 ghost use Rattle.index_find.specs.Find.{blocks_for};
 ghost use Rattle.list_gather.specs.Named.{has_cell};
@@ -69,12 +69,12 @@ struct Gathered<'a> {
 }
 
 impl Gathered<'_> {
-    ghost use Rattle.list_gather.specs.InnerGathering.{SameList, Guessed, Gathering};
+    ghost use Rattle.list_gather.specs.InnerGathering.{gathered, SameList, Guessed, Gathering};
 
     // An entry is put behind the others, unless the guess is a later one of its page.
     fn put(&mut self, pages: &[u64], entry: u16)
         requires { (self.old.count < length self.old.list.now) × Guessed self.old }
-        ensures { SameList self.old self.new × ((d : List ℕ) → Gathering pages.now self.old self.new (entry ∷ d) d 1 0) }
+        ensures { SameList self.old self.new × (((gathered self.new ≡ gathered self.old) ⊎ (gathered self.new ≡ gathered self.old ++ (entry ∷ []))) × ((d : List ℕ) → Gathering pages.now self.old self.new (entry ∷ d) d 1 0)) }
     {
         let page = cell_of(pages, entry);
         let slot = (page % 1024) as usize;
@@ -98,7 +98,8 @@ impl Gathered<'_> {
         let end = visible.count.min(first + BLOCK_ENTRIES);
         // By number: an entry's note and its page are found by it, and it is what is put.
         for n in (first..end).rev() {
-            if seen[n - first + 1] {
+            let noted = seen[n - first + 1];
+            if noted {
                 self.put(visible.pages, n as u16);
             }
         }

@@ -5,7 +5,7 @@ use mathlib.Core.List.{List, [], ◌∷◌}
 use Prim.Native.Nat.{ℕ, zero, suc, ◌<◌, ◌≤◌}
 use native.Mathlib.Decide.{dec_le}
 use native.Mathlib.Omega.{arith}
-use lib.ListN.{get_or}
+use lib.ListN.{length, get_or}
 use borrow.Author.Tests.{le-leb, lt-leb}
 use Rattle.list_sort.proofs.Keys.{by_eqb}
 use Rattle.list_gather.specs.Named.{named}
@@ -37,6 +37,13 @@ in_nil P n = elim [ ]
 pub in_cons : (P : Type 0) (n x : ℕ) (l : List ℕ) → In n (x ∷ l) → (n ≡ x → P) → (In n l → P) → P
 in_cons P n x l (here r) f g = f refl
 in_cons P n x l (there y r i) f g = g i
+
+pub rises_once : (pages : List ℕ) {l : List ℕ} → Rises pages l → (a b : ℕ) → In a l → In b l → get_or pages a 0 ≡ get_or pages b 0 → a ≡ b
+rises_once pages rises_none a b i j e = in_nil _ a i
+rises_once pages (rises_more t l above r) a b i j e =
+    in_cons _ a t l i
+    (λ p. in_cons _ b t l j (λ q. p ∙ sym q) (λ q. let h = above b q in let s = ap (λ (n : ℕ). get_or pages n 0) p in absurd (omega arith)))
+    (λ p. in_cons _ b t l j (λ q. let h = above a p in let s = ap (λ (n : ℕ). get_or pages n 0) q in absurd (omega arith)) (λ q. rises_once pages r a b p q e))
 
 module _ (pages : List ℕ) (n : ℕ) where
   -- what is in the list after entry n is put: n, and others
@@ -119,6 +126,14 @@ module _ (pages hash : List ℕ) where
       (λ e. put_any pages v _ (latest pages hash v) n (rw (latest_put v e) at i) (λ p. omega arith) (λ j. let h = latest_below v n j in omega arith))
       (λ e. let h = latest_below v n (rw (latest_same v e) at i) in omega arith)
 
+  -- each of them named by the hash
+  pub latest_named : (v n : ℕ) → In n (latest pages hash v) → named hash n ≡ true
+  latest_named zero n i = in_nil _ n (rw latest_none at i)
+  latest_named (suc v) n i =
+      by_bool _ (named hash v)
+      (λ e. put_any pages v _ (latest pages hash v) n (rw (latest_put v e) at i) (λ p. rw p e) (latest_named v n))
+      (λ e. latest_named v n (rw (latest_same v e) at i))
+
   -- and no later one of its page is
   pub latest_last : (v n : ℕ) → In n (latest pages hash v) → (m : ℕ) → n < m → m < v → named hash m ≡ true → get_or pages m 0 ≡ get_or pages n 0 → ⊥
   latest_last zero n i m a b k s = in_nil _ n (rw latest_none at i)
@@ -149,15 +164,15 @@ module _ (pages hash : List ℕ) where
 
 -- Of the latest entries, those whose frame is within the bounds.
 module _ (frames : List ℕ) (low high : ℕ) where
-  bounds_in : (e : ℕ) → low ≤ get_or frames e 0 → get_or frames e 0 ≤ high → in_bounds frames low high (e ∷ []) ≡ e ∷ []
+  pub bounds_in : (e : ℕ) → low ≤ get_or frames e 0 → get_or frames e 0 ≤ high → in_bounds frames low high (e ∷ []) ≡ e ∷ []
   unfolding in_bounds
   bounds_in e a b = rw (le-leb _ _ a, le-leb _ _ b)
 
-  bounds_low : (e : ℕ) → get_or frames e 0 < low → in_bounds frames low high (e ∷ []) ≡ []
+  pub bounds_low : (e : ℕ) → get_or frames e 0 < low → in_bounds frames low high (e ∷ []) ≡ []
   unfolding in_bounds
   bounds_low e a = rw (lt-leb _ _ a)
 
-  bounds_high : (e : ℕ) → low ≤ get_or frames e 0 → high < get_or frames e 0 → in_bounds frames low high (e ∷ []) ≡ []
+  pub bounds_high : (e : ℕ) → low ≤ get_or frames e 0 → high < get_or frames e 0 → in_bounds frames low high (e ∷ []) ≡ []
   unfolding in_bounds
   bounds_high e a b = rw (le-leb _ _ a, lt-leb _ _ b)
 
@@ -183,3 +198,22 @@ module _ (frames : List ℕ) (low high : ℕ) where
       by_bounds P t
       (λ a b. in_cons P n t (in_bounds frames low high l) (rw (bounds_keep t l a b) at i) (λ e. f (rw e (here l)) (rw e a) (rw e b)) (λ j. bounded P l n j (λ k. f (there t l k))))
       (λ o. bounded P l n (rw (bounds_leave t l o) at i) (λ k. f (there t l k)))
+
+  -- and each one within them is listed
+  pub bounded_has : (l : List ℕ) (n : ℕ) → In n l → low ≤ get_or frames n 0 → get_or frames n 0 ≤ high → In n (in_bounds frames low high l)
+  bounded_has [] n i a b = in_nil _ n i
+  bounded_has (t ∷ l) n i a b =
+      by_bounds _ t
+      (λ c d. rw (bounds_keep t l c d) (in_cons _ n t l i (λ e. rw e (here (in_bounds frames low high l))) (λ j. there t (in_bounds frames low high l) (bounded_has l n j a b))))
+      (λ o. rw (bounds_leave t l o) (in_cons _ n t l i (λ e. absurd (never t (rw e at a) (rw e at b) o)) (λ j. bounded_has l n j a b)))
+    where
+      never : (s : ℕ) → low ≤ get_or frames s 0 → get_or frames s 0 ≤ high → in_bounds frames low high (s ∷ []) ≡ [] → ⊥
+      never s c d o = let z = ap length (sym (bounds_in s c d) ∙ o) in omega arith
+
+  -- still by rising page
+  pub bounded_rises : (pages : List ℕ) {l : List ℕ} → Rises pages l → Rises pages (in_bounds frames low high l)
+  bounded_rises pages rises_none = rw (bounds_nil frames low high) rises_none
+  bounded_rises pages (rises_more t l above r) =
+      by_bounds _ t
+      (λ c d. rw (bounds_keep t l c d) (rises_more t (in_bounds frames low high l) (λ n i. bounded _ l n i (λ k a b. above n k)) (bounded_rises pages r)))
+      (λ o. rw (bounds_leave t l o) (bounded_rises pages r))

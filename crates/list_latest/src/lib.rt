@@ -33,7 +33,7 @@ impl Listing<'_> {
     {
         let count = self.visible.gather(list);
         let gathered = &mut list[..count];
-        list_sort::sort_by_page(self.visible.pages, gathered, &mut spare[..count]);
+        list_sort::sort_by_page(self.visible.pages, gathered, spare);
         let bounds = FrameBounds {
             frames: self.visible.frames,
             min_frame: self.min_frame,

@@ -16,19 +16,19 @@ note_cells-requires c = λ v b. get_or-replicate 4097 v _ _ b
 pub loop-n-init : goal.loop-n-init
 loop-n-init c = record { in_block = omega arith; same_list = refl; gathers = gathering_none _ _ _ _ _ _ refl refl c.requires.1.1 }
 
-pub loop-n-preserved-then-seen-n : goal.loop-n-preserved-then-seen-n
-loop-n-preserved-then-seen-n c =
+pub loop-n-preserved-then-noted : goal.loop-n-preserved-then-noted
+loop-n-preserved-then-noted c =
     let inv = c.loop-n.invariant in
-    let m = named_here (goal.at.loop-n-preserved-then-seen-n c).In-loop-n ∙ c.if-seen-n.true in record {
+    let m = named_here (goal.at.loop-n-preserved-then-noted c).In-loop-n ∙ c.if-noted.true in record {
       in_block = omega arith;
       same_list = c.put.ensures.0 ∙ inv.same_list;
-      gathers = gathering_named _ _ _ _ _ _ _ _ (omega arith) m inv.gathers (c.put.ensures.1 _);
+      gathers = gathering_named _ _ _ _ _ _ _ _ (omega arith) m inv.gathers (c.put.ensures.1.1 _);
     }
 
 pub loop-n-preserved : goal.loop-n-preserved
 loop-n-preserved c =
     let inv = c.loop-n.invariant in
-    let m = named_here (goal.at.loop-n-preserved c).In-loop-n ∙ c.if-seen-n.false in record {
+    let m = named_here (goal.at.loop-n-preserved c).In-loop-n ∙ c.if-noted.false in record {
       in_block = omega arith;
       same_list = inv.same_list;
       gathers = gathering_unnamed _ _ _ _ _ _ _ (omega arith) m inv.gathers;
