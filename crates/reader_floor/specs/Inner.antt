@@ -1,6 +1,6 @@
 -- Words for the contracts of the inner functions, by the calls' own definitions. No contract of a C function cites them.
 -- Assumes nothing.
-use Rattle.std.specs.Prelude.{◌≡◌, Option, is_some, Bool, List, ◌++◌, ℕ}
+use Rattle.std.specs.Prelude.{◌≡◌, Option, is_some, Bool, List, ◌++◌, ℕ, length}
 use Rattle.wal_types.specs.Memory.{Memory, Process}
 use Rattle.wal_types.specs.Store.{apply}
 use Rattle.wal_types.specs.Refusal.{Test, lowest}
@@ -8,15 +8,21 @@ use Rattle.wal_types.specs.declared.settings.ReaderSettings.{ReaderSettings}
 use Rattle.reader_slots.specs.declared.slots.SharedSlots.{SharedSlots}
 use Rattle.reader_slots.specs.Slots.{locals_in}
 use Rattle.reader_slots.specs.Search.{lowest_slot, some_slot}
-use Rattle.reader_slots.specs.Inner.{lent_in, SlotsBecome, slots_tests}
+use Rattle.reader_slots.specs.Inner.{lent_in, SlotsBecome, length_tests, slots_tests}
 use Rattle.reader_probe.specs.Live.{looked_at}
 use Rattle.reader_probe.specs.Inner.{live_db_file_by, probe_tests_by}
 use Rattle.reader_probe.specs.declared.live.LiveMarks.{LiveMarks}
 use Rattle.reader_floor.specs.Floor.{floor_of, reclaim_dead}
 
+-- the refusal of a call that probes every slot, 0 for none, by how many words of the bitmap are lent and by lists
+unfoldable pub lists_refusal : ReaderSettings → List ℕ → ℕ → List ℕ → List ℕ → List ℕ → ℕ
+lists_refusal settings bytes words f o l =
+    lowest (length_tests settings.n words (length f) (length o) (length l) ++ probe_tests_by settings bytes f o l settings.n)
+
 -- the tests of a call that probes so many slots, by the lent slots
 abbrev pub tests_by : ReaderSettings → List ℕ → SharedSlots → List ℕ → ℕ → List Test
-tests_by settings bytes s l looked = slots_tests settings.n s l ++ probe_tests_by settings bytes s l looked
+tests_by settings bytes s l looked =
+    slots_tests settings.n s l ++ probe_tests_by settings bytes s.reader_frames.now s.reader_owners.now l looked
 
 -- the refusal of a call that probes every slot, 0 for none
 unfoldable pub all_slots_refusal : ReaderSettings → List ℕ → SharedSlots → List ℕ → ℕ

@@ -4,9 +4,12 @@
 // live; the copy-back limit asks for both.
 ghost use Rattle.std.specs.Prelude.{◌≡◌, [], ◌∷◌};
 ghost use Rattle.wal_types.specs.Refusal.{refused_number};
-ghost use Rattle.reader_slots.specs.Inner.{HoldSlots, LentCall};
+ghost use Rattle.reader_slots.specs.Search.{lowest_slot};
+ghost use Rattle.reader_slots.specs.Inner.{AllHold, HoldSlots, LentCall};
+ghost use Rattle.reader_probe.specs.Live.{looked_at};
+ghost use Rattle.reader_probe.specs.Inner.{db_file_by, probe_refusal};
 ghost use Rattle.reader_floor.specs.Floor.{min_active_reader_frame, has_active_db_file_reader, min_frame_answer, db_file_answer};
-ghost use Rattle.reader_floor.specs.Inner.{all_slots_refusal, MarksOf, DbFileOf};
+ghost use Rattle.reader_floor.specs.Inner.{lists_refusal, all_slots_refusal, MarksOf, DbFileOf};
 
 use reader_probe::live::LiveMarks;
 use reader_probe::{live, probe};
@@ -16,8 +19,30 @@ use wal_types::DB_FILE_READER_FRAME;
 use wal_types::refusal::Refusal;
 use wal_types::settings::ReaderSettings;
 
-// The refusals of a call that probes every slot.
-#[tactic(auto, using(crate::proofs::Floored::early_number, crate::proofs::Floored::late_number, reader_slots::proofs::Calls::enough))]
+// The refusals of a call that probes every slot. bitmap_len is how many words of the bitmap are lent.
+#[tactic(auto, using(crate::proofs::Floored::early_number, crate::proofs::Floored::late_number, reader_slots::proofs::Calls::lengths_enough))]
+pub fn all_slots_refusal(
+    settings: ReaderSettings,
+    bitmap_len: usize,
+    reader_frames: &[u64],
+    reader_owners: &[u64],
+    local_readers: &[u64],
+    card: &[u8],
+) -> Result<(), Refusal>
+    ensures { refused_number result ≡ lists_refusal settings card.now bitmap_len reader_frames.now reader_owners.now local_readers.now }
+{
+    slots::slots_refusal(
+        settings.n,
+        bitmap_len,
+        reader_frames.len(),
+        reader_owners.len(),
+        local_readers.len(),
+    )?;
+    probe::check_floor(settings, reader_frames, reader_owners, local_readers, card)
+}
+
+// The same of lent slots.
+#[tactic(auto, unfolding(crate::specs::Inner::all_slots_refusal, crate::specs::Inner::lists_refusal))]
 pub fn check_all_slots(
     settings: ReaderSettings,
     slots: &SharedSlots<'_>,
@@ -26,8 +51,14 @@ pub fn check_all_slots(
 ) -> Result<(), Refusal>
     ensures { refused_number result ≡ all_slots_refusal settings card.now slots.now local_readers.now }
 {
-    slots::check_slots(settings.n, slots, local_readers)?;
-    probe::check_floor(settings, slots, local_readers, card)
+    all_slots_refusal(
+        settings,
+        slots.bitmap.len(),
+        slots.reader_frames,
+        slots.reader_owners,
+        local_readers,
+        card,
+    )
 }
 
 // The marks of all live slots, in one pass. (A for, as below: a proof knows nothing of a closure that stores.)
@@ -88,6 +119,25 @@ fn finds_db_file_reader(
     false
 }
 
+// Refusal 14 or 15 of has_active_db_file_reader.
+fn check_db_file_probes(
+    settings: ReaderSettings,
+    slots: &SharedSlots<'_>,
+    local_readers: &[u64],
+    card: &[u8],
+) -> Result<(), Refusal>
+    requires { AllHold settings.n (slots.now.reader_frames.now ∷ slots.now.reader_owners.now ∷ local_readers.now ∷ []) }
+    ensures { refused_number result ≡ probe_refusal settings card.now slots.now.reader_frames.now slots.now.reader_owners.now local_readers.now (looked_at settings.n (lowest_slot (db_file_by settings.mode card.now slots.now.reader_frames.now slots.now.reader_owners.now local_readers.now) settings.n 0)) }
+{
+    probe::check_db_file(
+        settings,
+        slots.reader_frames,
+        slots.reader_owners,
+        local_readers,
+        card,
+    )
+}
+
 // Whether a reader in any process reads only the database file.
 #[tactic(auto, using(crate::proofs::Floored::db_file_room, crate::proofs::Floored::db_file_told, reader_slots::proofs::Calls::enough))]
 pub fn has_active_db_file_reader(
@@ -99,6 +149,6 @@ pub fn has_active_db_file_reader(
     ensures { LentCall (has_active_db_file_reader settings.n settings.mode card.now) slots.old local_readers.now (db_file_answer result) slots.new local_readers.now }
 {
     slots::check_slots(settings.n, slots, local_readers)?;
-    probe::check_db_file(settings, slots, local_readers, card)?;
+    check_db_file_probes(settings, slots, local_readers, card)?;
     Ok(finds_db_file_reader(settings, slots, local_readers, card))
 }

@@ -1,2 +1,3 @@
 -- Laws of update_reader and unregister_reader.
 pub mod Released
+pub mod Moved

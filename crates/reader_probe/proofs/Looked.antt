@@ -29,9 +29,9 @@ looked_bound test n left i (Some j) e s = let b = lowest_below test left i j e i
 looked_bound test n left i None e s = (omega arith, omega arith)
 
 -- Refusals 14 and 15, by the card's own and by the look.
-module _ (settings : ReaderSettings) (bytes : List ℕ) (s : SharedSlots) (l : List ℕ) (looked : ℕ) where
+module _ (settings : ReaderSettings) (bytes f o l : List ℕ) (looked : ℕ) where
   abbrev failed : ℕ → Bool
-  failed = failed_by settings.mode bytes s l
+  failed = failed_by settings.mode bytes f o l
 
   abbrev of_card : List Test
   of_card = card_tests settings.n bytes
@@ -39,32 +39,32 @@ module _ (settings : ReaderSettings) (bytes : List ℕ) (s : SharedSlots) (l : L
   abbrev of_look : List Test
   of_look = (Probe if some_slot failed looked 0) ∷ []
 
-  pub refused_by_card : (r : Refusal) → number r ≡ card_refusal settings.n bytes → number r ≡ probe_refusal settings bytes s l looked
+  pub refused_by_card : (r : Refusal) → number r ≡ card_refusal settings.n bytes → number r ≡ probe_refusal settings bytes f o l looked
   unfolding card_refusal probe_refusal
   refused_by_card r e = sym (lowest_first of_card of_look r e)
 
   module _ (fine : 0 ≡ card_refusal settings.n bytes) where
-    by_look : lowest of_look ≡ probe_refusal settings bytes s l looked
+    by_look : lowest of_look ≡ probe_refusal settings bytes f o l looked
     unfolding card_refusal probe_refusal
     by_look = sym (lowest_rest of_card of_look fine)
 
-    pub no_error_byte : false ≡ eqb (greatest bytes) 2 → 0 ≡ probe_refusal settings bytes s l looked
+    pub no_error_byte : false ≡ eqb (greatest bytes) 2 → 0 ≡ probe_refusal settings bytes f o l looked
     unfolding card_refusal
     no_error_byte x =
         let low : greatest bytes < 2 = let b = (none_applies of_card (sym fine)).0 in below_two settings.n bytes b (sym x) in
-        rw (some_none failed looked 0 (λ j. rw (none_failed bytes j low) (last_false (not (is_fcntl settings.mode)) (not (skipped_cell settings.mode (get_or s.reader_frames.now j unused) (get_or s.reader_owners.now j 0))) (not (not (eqb (get_or l j 0) 0)))))) at by_look
+        rw (some_none failed looked 0 (λ j. rw (none_failed bytes j low) (last_false (not (is_fcntl settings.mode)) (not (skipped_cell settings.mode (get_or f j unused) (get_or o j 0))) (not (not (eqb (get_or l j 0) 0)))))) at by_look
 
-    pub look_fails : true ≡ some_slot failed looked 0 → 15 ≡ probe_refusal settings bytes s l looked
+    pub look_fails : true ≡ some_slot failed looked 0 → 15 ≡ probe_refusal settings bytes f o l looked
     look_fails x = rw (← x) at by_look
 
-    pub look_passes : false ≡ some_slot failed looked 0 → 0 ≡ probe_refusal settings bytes s l looked
+    pub look_passes : false ≡ some_slot failed looked 0 → 0 ≡ probe_refusal settings bytes f o l looked
     look_passes x = rw (← x) at by_look
 
   -- what refusals 14 and 15 leave behind them
-  pub probes_pass : 0 ≡ probe_refusal settings bytes s l looked → (length bytes ≡ settings.n) × (some_slot failed looked 0 ≡ false)
+  pub probes_pass : 0 ≡ probe_refusal settings bytes f o l looked → (length bytes ≡ settings.n) × (some_slot failed looked 0 ≡ false)
   unfolding probe_refusal
   probes_pass e =
-      let t = none_applies (probe_tests_by settings bytes s l looked) (sym e) in
+      let t = none_applies (probe_tests_by settings bytes f o l looked) (sym e) in
       (card_length settings.n bytes t.0, t.1.0)
 
 -- If no probe fails before it, the first live slot of mark 0 is the first whose probe does not fail.
@@ -84,10 +84,10 @@ module _ (settings : ReaderSettings) (bytes : List ℕ) (s : SharedSlots) (l : L
   alive = live_by settings.mode bytes s l
 
   abbrev fails : ℕ → Bool
-  fails = failed_by settings.mode bytes s l
+  fails = failed_by settings.mode bytes s.reader_frames.now s.reader_owners.now l
 
   abbrev told : ℕ → Bool
-  told = db_file_by settings.mode bytes s l
+  told = db_file_by settings.mode bytes s.reader_frames.now s.reader_owners.now l
 
   abbrev is_there : ℕ → Bool
   is_there = live_db_file_by settings.mode bytes s l

@@ -7,14 +7,10 @@ use Rattle.wal_types.specs.Refusal.{Test, ◌if◌, lowest}
 use Rattle.wal_types.specs.declared.refusal.Refusal.TheVariants.{Probe}
 use Rattle.wal_types.specs.declared.settings.ReaderSettings.{ReaderSettings}
 use Rattle.reader_slots.specs.declared.slots.SharedSlots.{SharedSlots}
-use Rattle.reader_slots.specs.Inner.{AllHold, card_tests}
+use Rattle.reader_slots.specs.Inner.{card_tests}
 use Rattle.reader_slots.specs.Search.{some_slot}
 use Rattle.reader_probe.specs.declared.live.LiveMarks.{LiveMarks}
 use Rattle.reader_probe.specs.Live.{lower_floor}
-
--- the lent slots have the frames and owners of n slots, and each list has n cells
-abbrev pub HoldCells : ℕ → SharedSlots → List (List ℕ) → Type 0
-HoldCells n s lists = AllHold n (s.reader_frames.now ∷ s.reader_owners.now ∷ lists)
 
 -- the floor's tests of a slot, by its frame, owner, local owner and card byte alone
 abbrev pub skipped_cell : SharedWalOwnershipMode → ℕ → ℕ → Bool
@@ -27,10 +23,9 @@ failed_cell mode frame owner local byte =
 abbrev pub live_cell : SharedWalOwnershipMode → ℕ → ℕ → ℕ → ℕ → Bool
 live_cell mode frame owner local byte = not (skipped_cell mode frame owner) && (not (eqb local 0) || not (eqb byte 1))
 
--- the same by the lent slots and the local owners
-abbrev pub failed_by : SharedWalOwnershipMode → List ℕ → SharedSlots → List ℕ → ℕ → Bool
-failed_by mode bytes s l i =
-    failed_cell mode (get_or s.reader_frames.now i unused) (get_or s.reader_owners.now i 0) (get_or l i 0) (get_or bytes i 0)
+-- the same by the slot frames f, the slot owners o and the local owners l, and by lent slots
+abbrev pub failed_by : SharedWalOwnershipMode → List ℕ → List ℕ → List ℕ → List ℕ → ℕ → Bool
+failed_by mode bytes f o l i = failed_cell mode (get_or f i unused) (get_or o i 0) (get_or l i 0) (get_or bytes i 0)
 
 abbrev pub live_by : SharedWalOwnershipMode → List ℕ → SharedSlots → List ℕ → ℕ → Bool
 live_by mode bytes s l i =
@@ -54,17 +49,16 @@ abbrev pub db_file_cell : SharedWalOwnershipMode → ℕ → ℕ → ℕ → ℕ
 db_file_cell mode frame owner local byte =
     live_cell mode frame owner local byte && not (failed_cell mode frame owner local byte) && eqb frame 0
 
-abbrev pub db_file_by : SharedWalOwnershipMode → List ℕ → SharedSlots → List ℕ → ℕ → Bool
-db_file_by mode bytes s l i =
-    db_file_cell mode (get_or s.reader_frames.now i unused) (get_or s.reader_owners.now i 0) (get_or l i 0) (get_or bytes i 0)
+abbrev pub db_file_by : SharedWalOwnershipMode → List ℕ → List ℕ → List ℕ → List ℕ → ℕ → Bool
+db_file_by mode bytes f o l i = db_file_cell mode (get_or f i unused) (get_or o i 0) (get_or l i 0) (get_or bytes i 0)
 
 abbrev pub live_db_file_by : SharedWalOwnershipMode → List ℕ → SharedSlots → List ℕ → ℕ → Bool
 live_db_file_by mode bytes s l i = live_by mode bytes s l i && eqb (get_or s.reader_frames.now i unused) 0
 
 -- the number of refusal 14 or 15 of a call that probes so many slots, 0 for neither
-abbrev pub probe_tests_by : ReaderSettings → List ℕ → SharedSlots → List ℕ → ℕ → List Test
-probe_tests_by settings bytes s l looked =
-    card_tests settings.n bytes ++ ((Probe if some_slot (failed_by settings.mode bytes s l) looked 0) ∷ [])
+abbrev pub probe_tests_by : ReaderSettings → List ℕ → List ℕ → List ℕ → List ℕ → ℕ → List Test
+probe_tests_by settings bytes f o l looked =
+    card_tests settings.n bytes ++ ((Probe if some_slot (failed_by settings.mode bytes f o l) looked 0) ∷ [])
 
-unfoldable pub probe_refusal : ReaderSettings → List ℕ → SharedSlots → List ℕ → ℕ → ℕ
-probe_refusal settings bytes s l looked = lowest (probe_tests_by settings bytes s l looked)
+unfoldable pub probe_refusal : ReaderSettings → List ℕ → List ℕ → List ℕ → List ℕ → ℕ → ℕ
+probe_refusal settings bytes f o l looked = lowest (probe_tests_by settings bytes f o l looked)

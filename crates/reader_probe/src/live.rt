@@ -5,8 +5,9 @@ ghost use Rattle.reader_slots.specs.Inner.{HoldSlot, emptied_if, SlotsBecome};
 ghost use Rattle.reader_probe.specs.Live.{dead};
 ghost use Rattle.reader_probe.specs.Inner.{skipped_cell, live_by, live_frame, marks_with};
 
+use reader_slots::slots;
 use reader_slots::slots::SharedSlots;
-use reader_slots::{available, slots};
+use wal_types::byte_lock::ByteLock;
 use wal_types::{
     DB_FILE_READER_FRAME, SharedOwnerRecord, SharedWalOwnershipMode, UNUSED_READER_FRAME,
 };
@@ -31,7 +32,7 @@ pub fn is_skipped(mode: SharedWalOwnershipMode, frame: u64, owner: SharedOwnerRe
 pub fn is_live(local_owner: SharedOwnerRecord, card: u8) -> bool
     ensures { result ≡ (not (eqb local_owner.0 0) || not (eqb card 1)) }
 {
-    !available::can_lock(local_owner, card)
+    local_owner != SharedOwnerRecord::UNOWNED || card != ByteLock::Granted as u8
 }
 
 // One slot's mark if the slot is live. A dead slot is reclaimed.

@@ -74,18 +74,18 @@ module _ (settings : ReaderSettings) (bytes : List ℕ) (s : SharedSlots) (l : L
   free_slot = lowest_slot (available_by s.bitmap.now l bytes) settings.n 0
 
   abbrev stale_slot : Option ℕ
-  stale_slot = lowest_slot (stale_by settings.mode bytes s l) settings.n 0
+  stale_slot = lowest_slot (stale_by settings.mode bytes s.bitmap.now s.reader_owners.now l) settings.n 0
 
-  pub chosen_below : (i : ℕ) → chosen_by settings bytes s l ≡ Some i → i < settings.n
+  pub chosen_below : (i : ℕ) → chosen_by settings bytes s.bitmap.now s.reader_owners.now l ≡ Some i → i < settings.n
   unfolding chosen_by
   chosen_below i e =
       elim (from_either free_slot stale_slot i e) [
         | inl q ↦ found_below (available_by s.bitmap.now l bytes) settings.n i q
-        | inr q ↦ found_below (stale_by settings.mode bytes s l) settings.n i q.1
+        | inr q ↦ found_below (stale_by settings.mode bytes s.bitmap.now s.reader_owners.now l) settings.n i q.1
       ]
 
   -- it is the slot that the definition chooses after the reclaim
-  pub chosen_is : (settings.n + 63) / 64 ≤ length s.bitmap.now → (z : Memory) (p : Process) → chosen_slot settings.n settings.mode bytes (lent_in z s) (locals_in p l) ≡ chosen_by settings bytes s l
+  pub chosen_is : (settings.n + 63) / 64 ≤ length s.bitmap.now → (z : Memory) (p : Process) → chosen_slot settings.n settings.mode bytes (lent_in z s) (locals_in p l) ≡ chosen_by settings bytes s.bitmap.now s.reader_owners.now l
   unfolding chosen_by
   chosen_is words z p = go free_slot refl
     where
@@ -109,11 +109,11 @@ module _ (settings : ReaderSettings) (reader : Reader) (bytes : List ℕ) (s : S
   takes_free i e s' l' g = (g.0.0, λ z p. rw (e, g.0.1 z, g.1))
 
   module _ (words : (settings.n + 63) / 64 ≤ length s.bitmap.now) where
-    chosen : (c : Option ℕ) → chosen_by settings bytes s l ≡ c → (z : Memory) (p : Process) → chosen_slot settings.n settings.mode bytes (lent_in z s) (locals_in p l) ≡ c
+    chosen : (c : Option ℕ) → chosen_by settings bytes s.bitmap.now s.reader_owners.now l ≡ c → (z : Memory) (p : Process) → chosen_slot settings.n settings.mode bytes (lent_in z s) (locals_in p l) ≡ c
     chosen c e z p = chosen_is settings bytes s l words z p ∙ e
 
     -- none can, and slot i is the lowest stale one
-    pub takes_stale : lowest_slot (available_by s.bitmap.now l bytes) settings.n 0 ≡ None → (i : ℕ) → lowest_slot (stale_by settings.mode bytes s l) settings.n 0 ≡ Some i → (s₁ : SharedSlots) → SlotsBecome (λ m p. apply (empty_slots settings.mode (reclaimable settings.mode bytes p) (settings.n - i) i m) m) s l s₁ → (s' : SharedSlots) (l' : List ℕ) → Takes i s₁ s' l' → Means (slot_taken i owner reader.mark) s' l'
+    pub takes_stale : lowest_slot (available_by s.bitmap.now l bytes) settings.n 0 ≡ None → (i : ℕ) → lowest_slot (stale_by settings.mode bytes s.bitmap.now s.reader_owners.now l) settings.n 0 ≡ Some i → (s₁ : SharedSlots) → SlotsBecome (λ m p. apply (empty_slots settings.mode (reclaimable settings.mode bytes p) (settings.n - i) i m) m) s l s₁ → (s' : SharedSlots) (l' : List ℕ) → Takes i s₁ s' l' → Means (slot_taken i owner reader.mark) s' l'
     unfolding RegistersCall chosen_by
     takes_stale none_free i e s₁ r s' l' g = (lent_then s s₁ s' r.0 g.0.0, stored)
       where
@@ -124,7 +124,7 @@ module _ (settings : ReaderSettings) (reader : Reader) (bytes : List ℕ) (s : S
             rw (chosen (Some i) (rw (none_free, e)) z p, none_free, apply_append (reclaim_all settings.n settings.mode bytes q m) (take_slot i owner reader.mark x) m, reclaimed_from settings.n settings.mode bytes m q i e, ← r.1 z p, g.0.1 z, g.1)
 
     -- no slot is chosen
-    pub takes_none : lowest_slot (available_by s.bitmap.now l bytes) settings.n 0 ≡ None → lowest_slot (stale_by settings.mode bytes s l) settings.n 0 ≡ None → Means none s l
+    pub takes_none : lowest_slot (available_by s.bitmap.now l bytes) settings.n 0 ≡ None → lowest_slot (stale_by settings.mode bytes s.bitmap.now s.reader_owners.now l) settings.n 0 ≡ None → Means none s l
     unfolding RegistersCall chosen_by
     takes_none none_free none_stale =
         (same_lent s, λ z p. rw (chosen None (rw (none_free, none_stale)) z p, none_free, nothing_reclaimed settings.n settings.mode bytes (lent_in z s) (locals_in p l) none_stale))

@@ -108,10 +108,10 @@ module _ (n : ℕ) (mode : SharedWalOwnershipMode) (owner mark : ℕ) (bytes : L
       go None = all_emptied_lengths mode (reclaimable mode bytes p) n 0 m
 
   -- an accepted call has its cells
-  pub room : number_given ≡ 0 → Enough n m.bitmap m.reader_frames m.reader_owners p.local_readers
+  pub room : number_given ≡ 0 → Enough n (length m.bitmap) (length m.reader_frames) (length m.reader_owners) (length p.local_readers)
   room x =
       let t = none_applies (register_tests n owner mark bytes m p) x in
-      enough_by n m.bitmap m.reader_frames m.reader_owners p.local_readers t.0 t.1.0
+      enough_by n (length m.bitmap) (length m.reader_frames) (length m.reader_owners) (length p.local_readers) t.0 t.1.0
 
   -- a slot that is answered
   took : (x : number_given ≡ 0) (i : ℕ) → chosen ≡ Some i → TookSlot n owner mark i p (apply (take_slot i owner mark reclaimed) reclaimed) (hold_found owner p (Some i))

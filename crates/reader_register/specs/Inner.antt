@@ -14,16 +14,16 @@ use Rattle.reader_slots.specs.Search.{lowest_slot}
 use Rattle.reader_slots.specs.Inner.{LentCall, slots_tests, reader_tests, card_tests, available_by}
 use Rattle.reader_register.specs.Register.{registers}
 
--- a slot that is reclaimed, by the lent lists
-abbrev pub stale_by : SharedWalOwnershipMode → List ℕ → SharedSlots → List ℕ → ℕ → Bool
-stale_by mode bytes s l i =
-    not (eqb (slot_bit s.bitmap.now i) 1) && not (not (eqb (get_or l i 0) 0)) && eqb (get_or bytes i 0) 1
-    && not (is_fcntl mode && eqb (get_or s.reader_owners.now i 0) 0)
+-- a slot that is reclaimed, by the bitmap b, the slot owners o and the local owners l
+abbrev pub stale_by : SharedWalOwnershipMode → List ℕ → List ℕ → List ℕ → List ℕ → ℕ → Bool
+stale_by mode bytes b o l i =
+    not (eqb (slot_bit b i) 1) && not (not (eqb (get_or l i 0) 0)) && eqb (get_or bytes i 0) 1
+    && not (is_fcntl mode && eqb (get_or o i 0) 0)
 
 -- the slot that a registration takes: the lowest one that is free, or else the lowest one that is stale
-unfoldable pub chosen_by : ReaderSettings → List ℕ → SharedSlots → List ℕ → Option ℕ
-chosen_by settings bytes s l =
-    option_or (lowest_slot (available_by s.bitmap.now l bytes) settings.n 0) (lowest_slot (stale_by settings.mode bytes s l) settings.n 0)
+unfoldable pub chosen_by : ReaderSettings → List ℕ → List ℕ → List ℕ → List ℕ → Option ℕ
+chosen_by settings bytes b o l =
+    option_or (lowest_slot (available_by b l bytes) settings.n 0) (lowest_slot (stale_by settings.mode bytes b o l) settings.n 0)
 
 -- the number of the refusal, 0 for none
 unfoldable pub register_refusal : ℕ → SharedSlots → List ℕ → Reader → List ℕ → ℕ

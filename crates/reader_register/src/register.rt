@@ -6,7 +6,7 @@ ghost use Rattle.reader_slots.specs.Slots.{take_slot};
 ghost use Rattle.reader_slots.specs.Search.{lowest_slot};
 ghost use Rattle.reader_slots.specs.Inner.{AllHold, HoldBits, HoldSlot, HoldSlots, SlotsStored, LentCall, available_by};
 ghost use Rattle.reader_register.specs.Register.{register_reader, slot_answer, register_answer};
-ghost use Rattle.reader_register.specs.Inner.{register_refusal, chosen_by, RegistersCall};
+ghost use Rattle.reader_register.specs.Inner.{stale_by, register_refusal, chosen_by, RegistersCall};
 
 use crate::stale;
 use reader_slots::slots::SharedSlots;
@@ -42,6 +42,38 @@ fn check_register(
     slots::check_card(n, card)
 }
 
+// The lowest of lent slots that is free, granted and not held here.
+fn available_lent(
+    n: usize,
+    slots: &SharedSlots<'_>,
+    local_readers: &[u64],
+    card: &[u8],
+) -> Option<usize>
+    requires { HoldBits n slots.now.bitmap.now × AllHold n (local_readers.now ∷ card.now ∷ []) }
+    ensures { result ≡ lowest_slot (available_by slots.now.bitmap.now local_readers.now card.now) n 0 }
+{
+    available::available_slot(n, slots.bitmap, local_readers, card)
+}
+
+// The lowest of them that is stale.
+fn stale_lent(
+    settings: ReaderSettings,
+    slots: &SharedSlots<'_>,
+    local_readers: &[u64],
+    card: &[u8],
+) -> Option<usize>
+    requires { HoldBits settings.n slots.now.bitmap.now × AllHold settings.n (slots.now.reader_owners.now ∷ local_readers.now ∷ card.now ∷ []) }
+    ensures { result ≡ lowest_slot (stale_by settings.mode card.now slots.now.bitmap.now slots.now.reader_owners.now local_readers.now) settings.n 0 }
+{
+    stale::stale_slot(
+        settings,
+        slots.bitmap,
+        slots.reader_owners,
+        local_readers,
+        card,
+    )
+}
+
 // register_reader where none of its refusals applies and no slot is free: the lowest stale slot is taken, which is free once
 // the stale slots are reclaimed.
 #[tactic(auto, using(reader_slots::proofs::Lowest::found_below, crate::proofs::Registered::takes_none, crate::proofs::Registered::takes_stale))]
@@ -56,7 +88,7 @@ fn register_stale(
     requires none_free { lowest_slot (available_by slots.old.bitmap.now local_readers.old card.now) settings.n 0 ≡ None }
     ensures { RegistersCall settings reader card.now slots.old local_readers.old (slot_answer reader.owner.0 reader.mark result) slots.new local_readers.new }
 {
-    let slot = stale::stale_slot(settings, slots, local_readers, card)?;
+    let slot = stale_lent(settings, slots, local_readers, card)?;
     stale::reclaim_stale_reader_slots(settings, slot, slots, local_readers, card);
     take_slot(slots, local_readers, slot, reader);
     Some(slot)
@@ -74,7 +106,7 @@ pub fn register_checked(
     requires { HoldSlots settings.n slots.old (local_readers.old ∷ card.now ∷ []) }
     ensures { RegistersCall settings reader card.now slots.old local_readers.old (slot_answer reader.owner.0 reader.mark result) slots.new local_readers.new }
 {
-    if let Some(slot) = available::available_slot(settings.n, slots, local_readers, card) {
+    if let Some(slot) = available_lent(settings.n, slots, local_readers, card) {
         take_slot(slots, local_readers, slot, reader);
         return Some(slot);
     }
@@ -85,15 +117,16 @@ pub fn register_checked(
 #[tactic(auto, unfolding(crate::specs::Inner::chosen_by))]
 pub fn could_take(
     settings: ReaderSettings,
-    slots: &SharedSlots<'_>,
+    bitmap: &[u64],
+    reader_owners: &[u64],
     local_readers: &[u64],
     card: &[u8],
 ) -> bool
-    requires { HoldBits settings.n slots.now.bitmap.now × AllHold settings.n (slots.now.reader_owners.now ∷ local_readers.now ∷ card.now ∷ []) }
-    ensures { result ≡ is_some (chosen_by settings card.now slots.now local_readers.now) }
+    requires { HoldBits settings.n bitmap.now × AllHold settings.n (reader_owners.now ∷ local_readers.now ∷ card.now ∷ []) }
+    ensures { result ≡ is_some (chosen_by settings card.now bitmap.now reader_owners.now local_readers.now) }
 {
-    available::available_slot(settings.n, slots, local_readers, card).is_some()
-        || stale::stale_slot(settings, slots, local_readers, card).is_some()
+    available::available_slot(settings.n, bitmap, local_readers, card).is_some()
+        || stale::stale_slot(settings, bitmap, reader_owners, local_readers, card).is_some()
 }
 
 // Takes a reader slot for a read transaction at a mark. The mark in the slot keeps checkpoints from copying past it. What
@@ -110,7 +143,7 @@ pub fn register_reader(
     ensures { LentCall (register_reader settings.n settings.mode reader.owner.0 reader.mark card.now) slots.old local_readers.old (register_answer reader.owner.0 reader.mark result) slots.new local_readers.new }
 {
     check_register(settings.n, slots, local_readers, card, reader)?;
-    if let Some(free) = available::available_slot(settings.n, slots, local_readers, card) {
+    if let Some(free) = available_lent(settings.n, slots, local_readers, card) {
         take_slot(slots, local_readers, free, reader);
         return Ok(Some(free));
     }

@@ -17,30 +17,60 @@ use wal_types::{SharedOwnerRecord, SharedWalOwnershipMode};
 // without an owner is left as it is.
 fn is_stale(
     mode: SharedWalOwnershipMode,
+    bitmap: &[u64],
+    reader_owners: &[u64],
+    local_readers: &[u64],
+    card: &[u8],
+    slot: usize,
+) -> bool
+    requires { (slot / 64 < length bitmap.now) × AllHold (suc slot) (reader_owners.now ∷ local_readers.now ∷ card.now ∷ []) }
+    ensures { result ≡ stale_by mode card.now bitmap.now reader_owners.now local_readers.now slot }
+{
+    word_bits::bit(bitmap[slot / 64], slot) != 1
+        && available::can_lock(SharedOwnerRecord(local_readers[slot]), card[slot])
+        && !slots::is_ownerless(mode, SharedOwnerRecord(reader_owners[slot]))
+}
+
+// The same of lent slots.
+fn is_stale_lent(
+    mode: SharedWalOwnershipMode,
     slots: &SharedSlots<'_>,
     local_readers: &[u64],
     card: &[u8],
     slot: usize,
 ) -> bool
     requires { (slot / 64 < length slots.now.bitmap.now) × AllHold (suc slot) (slots.now.reader_owners.now ∷ local_readers.now ∷ card.now ∷ []) }
-    ensures { result ≡ stale_by mode card.now slots.now local_readers.now slot }
+    ensures { result ≡ stale_by mode card.now slots.now.bitmap.now slots.now.reader_owners.now local_readers.now slot }
 {
-    word_bits::bit(slots.bitmap[slot / 64], slot) != 1
-        && available::can_lock(SharedOwnerRecord(local_readers[slot]), card[slot])
-        && !slots::is_ownerless(mode, SharedOwnerRecord(slots.reader_owners[slot]))
+    is_stale(
+        mode,
+        slots.bitmap,
+        slots.reader_owners,
+        local_readers,
+        card,
+        slot,
+    )
 }
 
 // The lowest stale slot.
 pub fn stale_slot(
     settings: ReaderSettings,
-    slots: &SharedSlots<'_>,
+    bitmap: &[u64],
+    reader_owners: &[u64],
     local_readers: &[u64],
     card: &[u8],
 ) -> Option<usize>
-    requires { HoldBits settings.n slots.now.bitmap.now × AllHold settings.n (slots.now.reader_owners.now ∷ local_readers.now ∷ card.now ∷ []) }
-    ensures { result ≡ lowest_slot (stale_by settings.mode card.now slots.now local_readers.now) settings.n 0 }
+    requires { HoldBits settings.n bitmap.now × AllHold settings.n (reader_owners.now ∷ local_readers.now ∷ card.now ∷ []) }
+    ensures { result ≡ lowest_slot (stale_by settings.mode card.now bitmap.now reader_owners.now local_readers.now) settings.n 0 }
 {
-    (0..settings.n).find(|&slot| is_stale(settings.mode, slots, local_readers, card, slot))
+    (0..settings.n).find(|&slot| is_stale(
+        settings.mode,
+        bitmap,
+        reader_owners,
+        local_readers,
+        card,
+        slot,
+    ))
 }
 
 // Empties a slot if it is stale.
@@ -54,7 +84,7 @@ fn try_reclaim_stale_reader_slot(
     requires { HoldSlot slot slots.old (local_readers.now ∷ card.now ∷ []) }
     ensures { SlotsBecome (λ m p. emptied_if mode (reclaimable mode card.now p m slot) slot m) slots.old local_readers.now slots.new }
 {
-    if is_stale(mode, slots, local_readers, card, slot) {
+    if is_stale_lent(mode, slots, local_readers, card, slot) {
         slots.empty_slot(mode, slot);
     }
 }

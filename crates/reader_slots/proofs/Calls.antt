@@ -12,7 +12,7 @@ use Rattle.wal_types.specs.Refusal.{Test, number, lowest}
 use Rattle.wal_types.proofs.Refusals.{number_not_zero}
 use Rattle.reader_slots.specs.declared.slots.SharedSlots.{SharedSlots}
 use Rattle.reader_slots.specs.Slots.{shorter}
-use Rattle.reader_slots.specs.Inner.{short, slots_tests, slots_refusal, registry_tests, registry_refusal}
+use Rattle.reader_slots.specs.Inner.{length_tests, length_refusal, registry_length_refusal, short, slots_tests, slots_refusal, registry_tests, registry_refusal}
 
 -- no test applies
 abbrev pub NoneApplies : List Test → Type 0
@@ -54,17 +54,16 @@ both_true true false e = absurd (false≢true (sym e))
 both_true false b e = absurd (false≢true (sym e))
 
 -- where neither 1 nor 2 applies: n is within its limits, and each list has the cells that n slots need
-pub record Enough (n : ℕ) (b f o l : List ℕ) : Type 0 where
+pub record Enough (n words frames owners locals : ℕ) : Type 0 where
   pub some : 1 ≤ n
   pub most : n ≤ 256
-  pub words_enough : (n + 63) / 64 ≤ length b
-  pub frames_enough : n ≤ length f
-  pub owners_enough : n ≤ length o
-  pub locals_enough : n ≤ length l
+  pub words_enough : (n + 63) / 64 ≤ words
+  pub frames_enough : n ≤ frames
+  pub owners_enough : n ≤ owners
+  pub locals_enough : n ≤ locals
 
-pub enough_by : (n : ℕ) (b f o l : List ℕ) → not (slots_in_limits n) ≡ false → shorter n (length b) (length f) (length o) (length l) ≡ false → Enough n b f o l
-enough_by n b f o l e g =
-    let words = length b in let frames = length f in let owners = length o in let locals = length l in
+pub enough_by : (n words frames owners locals : ℕ) → not (slots_in_limits n) ≡ false → shorter n words frames owners locals ≡ false → Enough n words frames owners locals
+enough_by n words frames owners locals e g =
     let s = both_true (leb 1 n) (leb n 256) e in
     let a = neither_true (ltb words (words_for n) || ltb frames n || ltb owners n) (ltb locals n) g in
     let c = neither_true (ltb words (words_for n) || ltb frames n) (ltb owners n) a.0 in
@@ -78,13 +77,19 @@ enough_by n b f o l e g =
       locals_enough = ltb-false locals n a.1;
     }
 
+pub lengths_enough : (n words frames owners locals : ℕ) → 0 ≡ length_refusal n words frames owners locals → Enough n words frames owners locals
+unfolding length_refusal
+lengths_enough n words frames owners locals e =
+    let t = none_applies (length_tests n words frames owners locals) (sym e) in
+    enough_by n words frames owners locals t.0 t.1.0
+
 -- the same of lent slots
 abbrev pub EnoughLent : ℕ → SharedSlots → List ℕ → Type 0
-EnoughLent n s l = Enough n s.bitmap.now s.reader_frames.now s.reader_owners.now l
+EnoughLent n s l = Enough n (length s.bitmap.now) (length s.reader_frames.now) (length s.reader_owners.now) (length l)
 
 module _ (n : ℕ) (s : SharedSlots) (l : List ℕ) where
   pub enough_lent : not (slots_in_limits n) ≡ false → short n s l ≡ false → EnoughLent n s l
-  enough_lent e g = enough_by n s.bitmap.now s.reader_frames.now s.reader_owners.now l e g
+  enough_lent e g = enough_by n (length s.bitmap.now) (length s.reader_frames.now) (length s.reader_owners.now) (length l) e g
 
   pub enough : 0 ≡ slots_refusal n s l → EnoughLent n s l
   unfolding slots_refusal
@@ -98,24 +103,24 @@ module _ (n : ℕ) (s : SharedSlots) (l : List ℕ) where
       (enough_lent t.0 q.0, ltb-false records n q.1)
 
 -- refusal 1 or 2 where the registry is lent too, by the one of the slots alone
-module _ (n : ℕ) (s : SharedSlots) (l : List ℕ) (records : ℕ) where
-  pub registry_early : (r : Refusal) → number r ≡ slots_refusal n s l → number r ≡ registry_refusal n s l records
-  unfolding slots_refusal registry_refusal
-  registry_early r e = go (not (slots_in_limits n)) (short n s l) e
+module _ (n words frames owners locals records : ℕ) where
+  pub registry_early : (r : Refusal) → number r ≡ length_refusal n words frames owners locals → number r ≡ registry_length_refusal n words frames owners locals records
+  unfolding length_refusal registry_length_refusal
+  registry_early r e = go (not (slots_in_limits n)) (shorter n words frames owners locals) e
     where
       go : (t h : Bool) → number r ≡ cond t 1 (cond h 2 0) → number r ≡ cond t 1 (cond (h || ltb records n) 2 0)
       go true h g = g
       go false true g = g
       go false false g = absurd (number_not_zero r g)
 
-  pub registry_short : 0 ≡ slots_refusal n s l → records < n → 2 ≡ registry_refusal n s l records
-  unfolding slots_refusal registry_refusal
+  pub registry_short : 0 ≡ length_refusal n words frames owners locals → records < n → 2 ≡ registry_length_refusal n words frames owners locals records
+  unfolding length_refusal registry_length_refusal
   registry_short e h =
-      let a = none_applies (slots_tests n s l) (sym e) in
+      let a = none_applies (length_tests n words frames owners locals) (sym e) in
       rw (a.0, a.1.0, lt-ltb records n h)
 
-  pub registry_fits : 0 ≡ slots_refusal n s l → n ≤ records → 0 ≡ registry_refusal n s l records
-  unfolding slots_refusal registry_refusal
+  pub registry_fits : 0 ≡ length_refusal n words frames owners locals → n ≤ records → 0 ≡ registry_length_refusal n words frames owners locals records
+  unfolding length_refusal registry_length_refusal
   registry_fits e h =
-      let a = none_applies (slots_tests n s l) (sym e) in
+      let a = none_applies (length_tests n words frames owners locals) (sym e) in
       rw (a.0, a.1.0, le-ltb records n h)

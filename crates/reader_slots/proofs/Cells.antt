@@ -17,6 +17,11 @@ pub and_false : (a : Bool) → (a && false) ≡ false
 and_false true = refl
 and_false false = refl
 
+pub third_false : (a b d : Bool) → (a && b && false && d) ≡ false
+third_false true true d = refl
+third_false true false d = refl
+third_false false b d = refl
+
 pub last_false : (a b c : Bool) → (a && b && c && false) ≡ false
 last_false a b c = and_false (a && b && c)
 

@@ -12,19 +12,26 @@ use Rattle.wal_types.specs.declared.SharedWalOwnershipMode.TheVariants.{LinuxOfd
 use Rattle.wal_types.specs.Settings.{unused}
 use Rattle.wal_types.specs.Memory.{Memory}
 use Rattle.wal_types.specs.Store.{apply, when}
-use Rattle.word_bits.specs.Bit.{set_bit}
-use Rattle.reader_slots.specs.Slots.{empty_slot, empty_slots, slots_in}
+use Rattle.word_bits.specs.Bit.{set_bit, clear_bit}
+use Rattle.reader_slots.specs.Slots.{take_slot, empty_slot, empty_slots, slots_in}
 use Rattle.reader_slots.specs.Inner.{emptied_if}
 use Rattle.wal_types.proofs.Stores.{apply_append}
 
--- the bitmap with slot i's bit 1
+-- the bitmap with slot i's bit 1, and 0
 abbrev pub bit_freed : List ℕ → ℕ → List ℕ
 bit_freed b i = set b (i / 64) (set_bit (get_or b (i / 64) 0) (i % 64))
+
+abbrev pub bit_taken : List ℕ → ℕ → List ℕ
+bit_taken b i = set b (i / 64) (clear_bit (get_or b (i / 64) 0) (i % 64))
 
 -- a slot emptied: the same in both modes
 pub emptied_slot : (mode : SharedWalOwnershipMode) (z : Memory) (b f o : List ℕ) (i : ℕ) → apply (empty_slot mode i (slots_in z b f o)) (slots_in z b f o) ≡ slots_in z (bit_freed b i) (set f i unused) (set o i 0)
 emptied_slot LinuxOfd z b f o i = refl
 emptied_slot ProcessScopedFcntl z b f o i = refl
+
+-- a slot taken
+pub taken_slot : (z : Memory) (b f o : List ℕ) (i owner mark : ℕ) → apply (take_slot i owner mark (slots_in z b f o)) (slots_in z b f o) ≡ slots_in z (bit_taken b i) (set f i mark) (set o i owner)
+taken_slot z b f o i owner mark = refl
 
 -- the memory after all slots that the test picks are emptied, of so many from this one on
 unfoldable pub emptied : SharedWalOwnershipMode → (Memory → ℕ → Bool) → ℕ → ℕ → Memory → Memory

@@ -59,7 +59,23 @@ LentCall call s l a s' l' =
 abbrev pub short : ℕ → SharedSlots → List ℕ → Bool
 short n s l = shorter n (length s.bitmap.now) (length s.reader_frames.now) (length s.reader_owners.now) (length l)
 
--- the number of refusal 1 or 2, 0 for neither
+-- the number of refusal 1 or 2, 0 for neither, by the lengths of the lists
+abbrev pub length_tests : ℕ → ℕ → ℕ → ℕ → ℕ → List Test
+length_tests n words frames owners locals =
+    (Settings if not (slots_in_limits n)) ∷ (ShortMemory if shorter n words frames owners locals) ∷ []
+
+unfoldable pub length_refusal : ℕ → ℕ → ℕ → ℕ → ℕ → ℕ
+length_refusal n words frames owners locals = lowest (length_tests n words frames owners locals)
+
+-- the same where the registry is lent too
+abbrev pub registry_length_tests : ℕ → ℕ → ℕ → ℕ → ℕ → ℕ → List Test
+registry_length_tests n words frames owners locals records =
+    (Settings if not (slots_in_limits n)) ∷ (ShortMemory if (shorter n words frames owners locals || ltb records n)) ∷ []
+
+unfoldable pub registry_length_refusal : ℕ → ℕ → ℕ → ℕ → ℕ → ℕ → ℕ
+registry_length_refusal n words frames owners locals records = lowest (registry_length_tests n words frames owners locals records)
+
+-- the number of refusal 1 or 2 of lent slots, 0 for neither
 abbrev pub slots_tests : ℕ → SharedSlots → List ℕ → List Test
 slots_tests n s l = (Settings if not (slots_in_limits n)) ∷ (ShortMemory if short n s l) ∷ []
 

@@ -3,7 +3,6 @@ ghost use Rattle.std.specs.Prelude.{◌≡◌, ◌&&◌, [], ◌∷◌, ◌+◌,
 ghost use Rattle.reader_slots.specs.Search.{lowest_slot};
 ghost use Rattle.reader_slots.specs.Inner.{AllHold, HoldBits, available_by, available_in};
 
-use crate::slots::SharedSlots;
 use wal_types::SharedOwnerRecord;
 use wal_types::byte_lock::ByteLock;
 
@@ -43,19 +42,14 @@ fn slot_in_word(
 }
 
 // The lowest slot that is free, granted and not held here.
-pub fn available_slot(
-    n: usize,
-    slots: &SharedSlots<'_>,
-    local_readers: &[u64],
-    card: &[u8],
-) -> Option<usize>
-    requires { HoldBits n slots.now.bitmap.now × AllHold n (local_readers.now ∷ card.now ∷ []) }
-    ensures { result ≡ lowest_slot (available_by slots.now.bitmap.now local_readers.now card.now) n 0 }
+pub fn available_slot(n: usize, bitmap: &[u64], local_readers: &[u64], card: &[u8]) -> Option<usize>
+    requires { HoldBits n bitmap.now × AllHold n (local_readers.now ∷ card.now ∷ []) }
+    ensures { result ≡ lowest_slot (available_by bitmap.now local_readers.now card.now) n 0 }
 {
     let words = (n + 63) / 64;
     (0..words).find_map(|word| {
         let first = word * 64;
         let end = (first + 64).min(n);
-        slot_in_word(slots.bitmap[word], first, end, local_readers, card)
+        slot_in_word(bitmap[word], first, end, local_readers, card)
     })
 }

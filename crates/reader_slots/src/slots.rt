@@ -4,7 +4,7 @@ ghost use Rattle.wal_types.specs.Settings.{is_fcntl};
 ghost use Rattle.wal_types.specs.Refusal.{refused_number};
 ghost use Rattle.word_bits.specs.Bit.{set_bit};
 ghost use Rattle.reader_slots.specs.Slots.{empty_slot};
-ghost use Rattle.reader_slots.specs.Inner.{HoldSlot, SlotsStored, slots_refusal, registry_refusal, reader_refusal, card_refusal, greatest};
+ghost use Rattle.reader_slots.specs.Inner.{HoldSlot, SlotsStored, length_refusal, registry_length_refusal, slots_refusal, registry_refusal, reader_refusal, card_refusal, greatest};
 
 use wal_types::byte_lock::ByteLock;
 use wal_types::refusal::Refusal;
@@ -27,18 +27,24 @@ pub fn is_ownerless(mode: SharedWalOwnershipMode, owner: SharedOwnerRecord) -> b
     mode.is_fcntl() && owner == SharedOwnerRecord::UNOWNED
 }
 
-// Refusal 1 or 2, by the lengths of the lent lists.
-#[tactic(auto, unfolding(crate::specs::Inner::slots_refusal))]
-pub fn check_slots(n: usize, slots: &SharedSlots<'_>, local_readers: &[u64]) -> Result<(), Refusal>
-    ensures { refused_number result ≡ slots_refusal n slots.now local_readers.now }
+// Refusal 1 or 2, by the lengths of the lists.
+#[tactic(auto, unfolding(crate::specs::Inner::length_refusal))]
+pub fn slots_refusal(
+    n: usize,
+    bitmap_len: usize,
+    reader_frames_len: usize,
+    reader_owners_len: usize,
+    local_readers_len: usize,
+) -> Result<(), Refusal>
+    ensures { refused_number result ≡ length_refusal n bitmap_len reader_frames_len reader_owners_len local_readers_len }
 {
     if n < 1 || 256 < n {
         return Err(Refusal::Settings);
     }
-    if slots.bitmap.len() < (n + 63) / 64
-        || slots.reader_frames.len() < n
-        || slots.reader_owners.len() < n
-        || local_readers.len() < n
+    if bitmap_len < (n + 63) / 64
+        || reader_frames_len < n
+        || reader_owners_len < n
+        || local_readers_len < n
     {
         return Err(Refusal::ShortMemory);
     }
@@ -47,6 +53,45 @@ pub fn check_slots(n: usize, slots: &SharedSlots<'_>, local_readers: &[u64]) -> 
 
 // Refusal 1 or 2 where the registry of shared marks is lent too.
 #[tactic(auto, using(crate::proofs::Calls::registry_early, crate::proofs::Calls::registry_short, crate::proofs::Calls::registry_fits))]
+pub fn registry_refusal(
+    n: usize,
+    bitmap_len: usize,
+    reader_frames_len: usize,
+    reader_owners_len: usize,
+    local_readers_len: usize,
+    registry_len: usize,
+) -> Result<(), Refusal>
+    ensures { refused_number result ≡ registry_length_refusal n bitmap_len reader_frames_len reader_owners_len local_readers_len registry_len }
+{
+    slots_refusal(
+        n,
+        bitmap_len,
+        reader_frames_len,
+        reader_owners_len,
+        local_readers_len,
+    )?;
+    if registry_len < n {
+        return Err(Refusal::ShortMemory);
+    }
+    Ok(())
+}
+
+// Refusal 1 or 2 of lent slots.
+#[tactic(auto, unfolding(crate::specs::Inner::slots_refusal, crate::specs::Inner::length_refusal))]
+pub fn check_slots(n: usize, slots: &SharedSlots<'_>, local_readers: &[u64]) -> Result<(), Refusal>
+    ensures { refused_number result ≡ slots_refusal n slots.now local_readers.now }
+{
+    slots_refusal(
+        n,
+        slots.bitmap.len(),
+        slots.reader_frames.len(),
+        slots.reader_owners.len(),
+        local_readers.len(),
+    )
+}
+
+// The same where the registry is lent too.
+#[tactic(auto, unfolding(crate::specs::Inner::registry_refusal, crate::specs::Inner::registry_length_refusal))]
 pub fn check_registry(
     n: usize,
     slots: &SharedSlots<'_>,
@@ -55,11 +100,10 @@ pub fn check_registry(
 ) -> Result<(), Refusal>
     ensures { refused_number result ≡ registry_refusal n slots.now local_readers.now registry_len }
 {
-    check_slots(n, slots, local_readers)?;
-    if registry_len < n {
-        return Err(Refusal::ShortMemory);
-    }
-    Ok(())
+    let words = slots.bitmap.len();
+    let frames = slots.reader_frames.len();
+    let owners = slots.reader_owners.len();
+    registry_refusal(n, words, frames, owners, local_readers.len(), registry_len)
 }
 
 // Refusal 9 or 10, by the owner and the mark of a reader.

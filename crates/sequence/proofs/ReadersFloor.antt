@@ -153,7 +153,7 @@ module _ (n : ℕ) (mode : SharedWalOwnershipMode) (bytes : List ℕ) (m : Memor
     bounded : lowest (probe_tests n mode bytes n m p) ≡ 0 → Stays (apply (reclaim_dead mode bytes p n m) m) → AtMost x (floor_of n mode bytes m p)
     bounded e h =
         let t = none_applies (probe_tests n mode bytes n m p) e in
-        let r = enough_by n m.bitmap m.reader_frames m.reader_owners p.local_readers t.0 t.1.0 in
+        let r = enough_by n (length m.bitmap) (length m.reader_frames) (length m.reader_owners) (length p.local_readers) t.0 t.1.0 in
         floor_at_most mode bytes p m n i x below (is_live h) (get_or_any m.reader_frames i 0 unused (omega arith) ∙ marked) (λ z. (omega arith))
 
     pub floor_bound : accepted (after (min_active_reader_frame n mode bytes) m p).answer → Stays (after (min_active_reader_frame n mode bytes) m p).memory → (f : ℕ) × ((after (min_active_reader_frame n mode bytes) m p).answer ≡ frame_found f) × (f ≤ x)

@@ -3,4 +3,4 @@ use mathlib.Core.Path.{sym, ◌∙◌}
 use Rattle.reader_probe.proofs.probe.check_db_file.Goals as goal
 
 pub returns-then-some_probe_failed : goal.returns-then-some_probe_failed
-returns-then-some_probe_failed c = rw (← c.db_file_slot-first.ensures, ← c.unwrap_or-looked.ensures) (look_fails _ _ _ _ _ c.in_ok-card_has_error.ensures.refused (sym c.if-some_probe_failed.true ∙ c.some_probe_failed.ensures))
+returns-then-some_probe_failed c = rw (← c.db_file_slot-first.ensures, ← c.unwrap_or-looked.ensures) (look_fails _ _ _ _ _ _ c.in_ok-card_has_error.ensures.refused (sym c.if-some_probe_failed.true ∙ c.some_probe_failed.ensures))

@@ -9,5 +9,5 @@ use Rattle.reader_probe.proofs.probe.db_file_slot.Goals as goal
 pub returns : goal.returns
 returns c =
     let n = c.args.settings.n in
-    let test = db_file_by c.args.settings.mode c.args.card.now c.args.slots.now c.args.local_readers.now in
+    let test = db_file_by c.args.settings.mode c.args.card.now c.args.reader_frames.now c.args.reader_owners.now c.args.local_readers.now in
     lowest_by_find test test n _ (find_from_yields_List test _ _ _ c.find.ensures.ran (YieldsList-from_range 0 n n refl (sub-zero n)) (λ x b q k. search (rules, tests))) (λ j b. refl)

@@ -9,5 +9,5 @@ use Rattle.reader_probe.proofs.probe.some_probe_failed.Goals as goal
 pub returns : goal.returns
 returns c =
     let n = c.args.looked in
-    let test = failed_by c.args.mode c.args.card.now c.args.slots.now c.args.local_readers.now in
+    let test = failed_by c.args.mode c.args.card.now c.args.reader_frames.now c.args.reader_owners.now c.args.local_readers.now in
     some_by_any test test n _ (any_from_yields_List test _ _ _ c.any.ensures.ran (YieldsList-from_range 0 n n refl (sub-zero n)) (λ x b q k. search (rules, tests))) (λ j b. refl)

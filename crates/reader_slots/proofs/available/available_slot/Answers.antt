@@ -6,4 +6,4 @@ use Rattle.reader_slots.proofs.available.available_slot.Goals as goal
 pub returns : goal.returns
 returns c =
     let a = c.args in
-    by_words a.n a.slots.now.bitmap.now a.local_readers.now a.card.now _ (first_answer _ _ (word_answers a.n a.slots.now.bitmap.now a.local_readers.now a.card.now) (λ x b q k. search (rules, tests)) _ _ c.find_map.ensures.runs)
+    by_words a.n a.bitmap.now a.local_readers.now a.card.now _ (first_answer _ _ (word_answers a.n a.bitmap.now a.local_readers.now a.card.now) (λ x b q k. search (rules, tests)) _ _ c.find_map.ensures.runs)

@@ -1,7 +1,7 @@
 use Rattle.reader_slots.proofs.Free.{free_past, free_found, free_next, free_less}
 use Rattle.reader_slots.proofs.Words.{empty_word}
 use Prim.Native.Nat.{◌-◌, ◌%◌}
-use mathlib.Core.Path.{◌≡◌, refl, sym, ◌∙◌}
+use mathlib.Core.Path.{◌≡◌, sym, ◌∙◌}
 use native.Mathlib.Omega.{arith}
 use Rattle.reader_slots.proofs.available.slot_in_word.Goals as goal
 
