@@ -57,27 +57,25 @@ pub fn eight_empty(part: &[SharedReadMark]) -> bool
     all_empty(eight)
 }
 
-// A record with a holder more. One with 65,535 holders or more stays as it is.
+// A record with a holder more. One with 65,535 holders or more stays as it is. (A copy of the record, here and below, of which
+// one field is set: with one made of fields, the record's padding would be stored too.)
 pub fn with_holder_more(item: SharedReadMark) -> SharedReadMark
     ensures { result ≡ one_more_below item }
 {
-    if MOST_HOLDERS <= item.holders {
-        return item;
+    let mut next = item;
+    if item.holders < MOST_HOLDERS {
+        next.holders += 1;
     }
-    SharedReadMark {
-        holders: item.holders + 1,
-        ..item
-    }
+    next
 }
 
 // A record with a holder less. With 0 holders left it is empty.
 pub fn with_holder_less(item: SharedReadMark) -> SharedReadMark
     ensures { result ≡ one_less item }
 {
-    SharedReadMark {
-        holders: item.holders.saturating_sub(1),
-        ..item
-    }
+    let mut next = item;
+    next.holders = item.holders.saturating_sub(1);
+    next
 }
 
 // A new record, with its first holder.

@@ -6,7 +6,7 @@ use Prim.Native.Nat.{ℕ, ◌^◌, ◌<◌, ◌≤◌, min}
 use native.Mathlib.Omega.{arith}
 use lib.Dec.{leb}
 use lib.ListN.{length, get_or}
-use Rattle.std.specs.Prelude.{Option, Some, None, is_some, is_none, Result, Ok, Err}
+use Rattle.std.specs.Prelude.{Option, Some, None, is_some, is_none, option_map, Result, Ok, Err}
 use Rattle.wal_types.specs.declared.SharedReadMark.{SharedReadMark}
 use Rattle.wal_types.specs.declared.SharedWalOwnershipMode.{SharedWalOwnershipMode}
 use Rattle.wal_types.specs.declared.settings.ReaderSettings.{ReaderSettings}
@@ -14,7 +14,7 @@ use Rattle.wal_types.specs.declared.settings.Reader.{Reader}
 use Rattle.wal_types.specs.Settings.{most_holders}
 use Rattle.wal_types.specs.Memory.{Memory, Process, no_mark, blank_memory, blank_process}
 use Rattle.wal_types.specs.declared.refusal.Refusal.{Refusal}
-use Rattle.wal_types.specs.Refusal.{Test, ◌if◌, lowest, number}
+use Rattle.wal_types.specs.Refusal.{Test, ◌if◌, lowest, number, refused_number}
 use Rattle.wal_types.specs.declared.refusal.Refusal.TheVariants.{RegistryFull}
 use Rattle.wal_types.specs.Call.{none, Done, after, done}
 use Rattle.wal_types.proofs.Refusals.{number_not_zero, call_turned_away, call_accepted}
@@ -34,7 +34,7 @@ use Rattle.reader_marks.specs.Registry.{record_of, empty_record}
 use Rattle.reader_marks.specs.InnerScan.{seen_of}
 use Rattle.reader_shared.specs.declared.shared.SharePlan.{SharePlan}
 use Rattle.reader_shared.specs.Shared.{no_room, share_tests, new_record, shares, register_reader_for_snapshot, share_answer, registry_in}
-use Rattle.reader_shared.specs.Inner.{shares_joined, shares_published, share_change, room_refusal, four_tests, share_refusal, PlanCall, PlanCarried}
+use Rattle.reader_shared.specs.Inner.{shares_joined, joined_refusal, shares_published, share_change, room_refusal, four_tests, share_refusal, PlanCall, PlanCarried}
 use Rattle.reader_shared.proofs.Refused.{share_room}
 use Rattle.reader_plans.proofs.Seen.{placed, unplaced}
 
@@ -139,6 +139,22 @@ module _ (settings : ReaderSettings) (reader : Reader) (bytes : List ℕ) (slots
                   ∙ rw ((here r (s, q)).0, (here r (s, q)).1, below),
             )
 
+      -- share_joined has answered, by what is said of the card
+      module _ (card : Result Unit Refusal) (by_card : refused_number card ≡ card_refusal n bytes) where
+        pub joined_refused : (k : Refusal) → number k ≡ joined_refusal item card → Means slots l (Err k)
+        joined_refused k e = go (leb most_holders item.holders) refl e
+          where
+            go : (t : Bool) → leb most_holders item.holders ≡ t → number k ≡ cond t 13 (refused_number card) → Means slots l (Err k)
+            go true x g = joined_full k (g ∙ rw x)
+            go false x g = joined_card (rw x) k (g ∙ by_card)
+
+        pub joined_taken : 0 ≡ joined_refusal item card → Means slots l (Ok (Some (shares_joined place item mark)))
+        joined_taken e = go (leb most_holders item.holders) refl e
+          where
+            go : (t : Bool) → leb most_holders item.holders ≡ t → 0 ≡ cond t 13 (refused_number card) → Means slots l (Ok (Some (shares_joined place item mark)))
+            go true x g = absurd (number_not_zero RegistryFull (sym g))
+            go false x g = joined (rw x) (g ∙ by_card)
+
     -- a new mark
     module _ (free : Option ℕ) (new : seen ≡ New free) where
       absent : (r : List SharedReadMark) → Fits r → (record_of n r mark ≡ None) × (empty_record n r ≡ free)
@@ -158,7 +174,7 @@ module _ (settings : ReaderSettings) (reader : Reader) (bytes : List ℕ) (slots
         good = (none_applies (card_tests n bytes) (sym card)).0
 
         abbrev chosen : Option ℕ
-        chosen = chosen_by settings bytes slots l
+        chosen = chosen_by settings bytes slots.bitmap.now slots.reader_owners.now l
 
         chosen_here : (z : Memory) (p : Process) (r : List SharedReadMark) → chosen_slot n mode bytes (memory z) (process p r) ≡ chosen
         chosen_here z p r = chosen_is settings bytes slots l room.0.words_enough z (process p r)
@@ -188,16 +204,26 @@ module _ (settings : ReaderSettings) (reader : Reader) (bytes : List ℕ) (slots
           where
             go : (c : Option ℕ) → chosen ≡ c → Means slots l (cond (is_some c) (Err RegistryFull) (Ok None))
             go (Some i) x = refused_as RegistryFull (λ z p r s. later z p r s.1 ∙ rw ((absent r s).0, good, chosen_here z p r, x, (absent r s).1, none_empty))
-            go None x = let q = from_neither (lowest_slot (available_by slots.bitmap.now l bytes) n 0) (lowest_slot (stale_by mode bytes slots l) n 0) x in nothing slots l (takes_none settings reader bytes slots l room.0.words_enough q.0 q.1)
+            go None x = let q = from_neither (lowest_slot (available_by slots.bitmap.now l bytes) n 0) (lowest_slot (stale_by mode bytes slots.bitmap.now slots.reader_owners.now l) n 0) x in nothing slots l (takes_none settings reader bytes slots l room.0.words_enough q.0 q.1)
 
         -- register_checked has answered
         module _ (taken : Option ℕ) (slots' : SharedSlots) (l' : List ℕ) (does : RegistersCall settings reader bytes slots l (slot_answer owner mark taken) slots' l') where
           pub none_taken : taken ≡ None → Means slots' l' (Ok None)
           none_taken x = nothing slots' l' (rw x at does)
 
+          pub taken_below : (slot : ℕ) → taken ≡ Some slot → slot < n
+          taken_below slot x = chosen_below settings bytes slots l slot (chosen_taken taken slots' l' does ∙ x)
+
           pub slot_fits : (slot : ℕ) → taken ≡ Some slot → slot < 2 ^ 32
-          slot_fits slot x = let small = chosen_below settings bytes slots l slot (chosen_taken taken slots' l' does ∙ x) in let most = room.0.most in omega arith
+          slot_fits slot x = let small = taken_below slot x in let most = room.0.most in omega arith
 
           pub published : (slot : ℕ) → taken ≡ Some slot → (place : ℕ) → free ≡ Some place → Means slots' l' (Ok (Some (shares_published place slot reader)))
           unfolding PlanCarried RegistersCall
           published slot x place e = (does.0, λ r s q z p. does_both (Some slot) slots' l' (rw x at does) (rw e) z p r (s, q) ∙ rw e)
+
+          pub registered : (place : ℕ) → free ≡ Some place → Means slots' l' (Ok (option_map (λ slot. shares_published place slot reader) taken))
+          registered place e = go taken refl
+            where
+              go : (answer : Option ℕ) → taken ≡ answer → Means slots' l' (Ok (option_map (λ slot. shares_published place slot reader) answer))
+              go None x = none_taken x
+              go (Some slot) x = published slot x place e

@@ -134,14 +134,14 @@ module _ (settings : ReaderSettings) (reader : Reader) (slot : ℕ) (slots : Sha
         here : (r : List SharedReadMark) → Fits r → (record_of n r mark ≡ Some place) × (get_or r place no_mark ≡ item)
         here r s = placed n r mark (long r s.1) place item (sym found ∙ s.0)
 
-        its_number : (z : Memory) (p : Process) (r : List SharedReadMark) → Fits r → number_given z p r ≡ unshare_refusal mode release owner mark (get_or slots.reader_owners.now slot 0) (get_or l slot 0)
+        its_number : (z : Memory) (p : Process) (r : List SharedReadMark) → Fits r → number_given z p r ≡ unshare_refusal mode (is_known release) (frees release) owner mark (get_or slots.reader_owners.now slot 0) (get_or l slot 0)
         unfolding unshare_refusal
         its_number z p r s = by_last z p r s.1 ∙ rw ((here r s).0, (here r s).1, ← known_is, ← frees_is)
 
-        pub unshare_refused : (k : Refusal) → number k ≡ unshare_refusal mode release owner mark (get_or slots.reader_owners.now slot 0) (get_or l slot 0) → Means slots l (Err k)
+        pub unshare_refused : (k : Refusal) → number k ≡ unshare_refusal mode (is_known release) (frees release) owner mark (get_or slots.reader_owners.now slot 0) (get_or l slot 0) → Means slots l (Err k)
         unshare_refused k e = refused_as k (λ z p r s. its_number z p r s ∙ sym e)
 
-        module _ (pass : 0 ≡ unshare_refusal mode release owner mark (get_or slots.reader_owners.now slot 0) (get_or l slot 0)) where
+        module _ (pass : 0 ≡ unshare_refusal mode (is_known release) (frees release) owner mark (get_or slots.reader_owners.now slot 0) (get_or l slot 0)) where
           made : (z : Memory) (p : Process) (r : List SharedReadMark) → Fits r →
               after (unregister_reader_for_snapshot n mode mark slot owner) (memory z) (process p r) ≡ after (unshares mode slot (Some place)) (memory z) (process p r)
           unfolding unregister_reader_for_snapshot
@@ -152,7 +152,7 @@ module _ (settings : ReaderSettings) (reader : Reader) (slot : ℕ) (slots : Sha
           -- the mark, the slot and the owner are registered
           told_known : is_known release ≡ true
           unfolding unshare_refusal
-          told_known = not_not (is_known release) (none_applies (slot_tests mode release owner (get_or slots.reader_owners.now slot 0) (get_or l slot 0) ++ mark_tests owner mark (is_known release)) (sym pass)).1.1.1.1.0
+          told_known = not_not (is_known release) (none_applies (slot_tests mode (frees release) owner (get_or slots.reader_owners.now slot 0) (get_or l slot 0) ++ mark_tests owner mark (is_known release)) (sym pass)).1.1.1.1.0
 
           pub unshare_left : frees release ≡ false → Means slots l (Ok place)
           unfolding PlanCarried

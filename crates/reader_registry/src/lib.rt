@@ -26,12 +26,12 @@ fn first_empty(records: &[SharedReadMark]) -> Option<usize>
 }
 
 // The place of the first record in use that is wanted. Most of a registry is empty, and eight empty records cost eight
-// loads and one test. Where one of eight is in use, the scan goes through them record by record, and first tests what
-// is wanted: hardly a record passes that, so one load for each is enough. A direct release looks at all n records
-// unless one names its slot (refusal 11), so at 256 slots this loop is most of its time. Each caller has a loop of its
-// own, since it passes a closure of its own: one loop for all of them took half as long again. With arrays of eight in
-// place of chunks the compiler writes the inner scan out eight times, and a direct release of up to 64 slots took a
-// tenth longer.
+// loads and one test. Where one of eight is in use, the scan goes through them record by record, and the closure first
+// tests what is wanted and then whether the record is in use: hardly a record passes the first, so one load for each is
+// enough. A direct release looks at all n records unless one names its slot (refusal 11), so at 256 slots this loop is
+// most of its time. Each caller has a loop of its own, since it passes a closure of its own: one loop for all of them took
+// half as long again. With arrays of eight in place of chunks the compiler writes the inner scan out eight times, and a
+// direct release of up to 64 slots took a tenth longer.
 #[inline(always)]
 fn first_used<F: Fn(&SharedReadMark) -> bool>(
     records: &[SharedReadMark],
@@ -39,17 +39,14 @@ fn first_used<F: Fn(&SharedReadMark) -> bool>(
 ) -> Option<usize>
     ghost test: { SharedReadMark → Bool }
     requires callable { F.IsAlwaysCallable is_wanted }
-    requires answers { (item : _) (b : _) → F.post is_wanted item b → b ≡ test item.now }
+    requires answers { (item : _) (b : _) → F.post is_wanted item b → b ≡ used test item.now }
     ensures { result ≡ position (used test) records.now }
 {
     for (k, part) in records.chunks(8).enumerate() {
         if reader_marks::eight_empty(part) {
             continue;
         }
-        if let Some(i) = part
-            .iter()
-            .position(|item| is_wanted(item) && item.holders != 0)
-        {
+        if let Some(i) = part.iter().position(|item| is_wanted(item)) {
             return Some(k * 8 + i);
         }
     }
@@ -63,7 +60,7 @@ pub fn look_through(registry: &[SharedReadMark], n: usize, mark: u64) -> Seen
     ensures { result ≡ seen_of (min n (length registry.now)) registry.now mark }
 {
     let records = first_records(registry, n);
-    match first_used(records, |item| item.mark == mark) {
+    match first_used(records, |item| item.mark == mark && item.holders != 0) {
         Some(place) => Seen::Shared {
             place,
             item: records[place],
@@ -81,7 +78,7 @@ pub fn slot_is_shared(registry: &[SharedReadMark], n: usize, slot: usize) -> boo
 {
     first_used(
         first_records(registry, n),
-        |item| item.slot as usize == slot,
+        |item| item.slot as usize == slot && item.holders != 0,
     )
     .is_some()
 }

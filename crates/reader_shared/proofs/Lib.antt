@@ -1,2 +1,3 @@
--- Laws of refusals.
+-- Laws of plans and of refusals.
 pub mod Refused
+pub mod Plans

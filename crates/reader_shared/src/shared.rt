@@ -1,8 +1,8 @@
 // What a shared registration and a shared release decide, by value.
-ghost use Rattle.std.specs.Prelude.{◌≡◌, ◌&&◌, ◌^◌, ◌<◌, eqb, cond, Ok, Err, None};
+ghost use Rattle.std.specs.Prelude.{◌≡◌, ◌&&◌, eqb, cond, option_map, Ok, Err, None, IfOk};
 ghost use Rattle.wal_types.specs.Refusal.{refused_number};
 ghost use Rattle.wal_types.specs.declared.refusal.Refusal.TheVariants.{RegistryFull};
-ghost use Rattle.reader_shared.specs.Inner.{release_of, frees, shares_joined, shares_published, room_refusal, share_refusal, last_refusal, mark_refusal, unshare_refusal};
+ghost use Rattle.reader_shared.specs.Inner.{release_of, is_known, frees, shares_joined, joined_refusal, SlotFits, shares_published, room_refusal, share_length_refusal, share_refusal, last_refusal, mark_refusal, unshare_refusal};
 
 use reader_marks::{MOST_HOLDERS, SharedSlot};
 use reader_moves::update::SlotOwners;
@@ -36,11 +36,20 @@ pub enum Release {
     Last,
 }
 
-// A mark that has the record item, in this place: it is retained.
-pub fn share_joined(place: usize, item: SharedReadMark, mark: u64) -> SharePlan
-    ensures { result ≡ shares_joined place item mark }
+// A mark that has the record item, in this place: it is retained, unless it has 65,535 holders or the card is refused.
+#[tactic(auto, using(crate::proofs::Plans::joined_full, crate::proofs::Plans::joined_bad_card, crate::proofs::Plans::joined_kept))]
+pub fn share_joined(
+    place: usize,
+    item: SharedReadMark,
+    mark: u64,
+    card: Result<(), Refusal>,
+) -> Result<SharePlan, Refusal>
+    ensures refused { refused_number result ≡ joined_refusal item card }
+    ensures told { IfOk result (λ plan. plan ≡ shares_joined place item mark) }
 {
-    SharePlan {
+    check_room(item)?;
+    card?;
+    Ok(SharePlan {
         taken: SharedSlot {
             slot: item.slot,
             reader: Reader {
@@ -49,21 +58,29 @@ pub fn share_joined(place: usize, item: SharedReadMark, mark: u64) -> SharePlan
             },
         },
         change: RecordChange::Retained(place),
-    }
+    })
 }
 
-// A new mark in a slot just taken: a record is published for it, in the empty place free.
-pub fn share_published(free: usize, slot: usize, reader: Reader) -> SharePlan
-    requires { slot < 2 ^ 32 }
-    ensures { result ≡ shares_published free slot reader }
+// A new mark, by the slot that was taken for it: a record is published for it, in the empty place free. Without a slot
+// there is nothing to publish.
+pub fn share_published(
+    free: usize,
+    registered: Option<usize>,
+    reader: Reader,
+) -> Result<Option<SharePlan>, Refusal>
+    requires { SlotFits registered }
+    ensures { result ≡ Ok (option_map (λ slot. shares_published free slot reader) registered) }
 {
-    SharePlan {
+    let Some(slot) = registered else {
+        return Ok(None);
+    };
+    Ok(Some(SharePlan {
         taken: SharedSlot {
             slot: slot as u32,
             reader,
         },
         change: RecordChange::Published(free),
-    }
+    }))
 }
 
 // The answer to a new mark where no record is empty: refused if a slot could be taken.
@@ -86,8 +103,32 @@ pub fn check_room(item: SharedReadMark) -> Result<(), Refusal>
     Ok(())
 }
 
-// Refusal 1, 2, 9 or 10, by the lengths of the lent lists and the reader.
+// Refusal 1, 2, 9 or 10, by the lengths of the lists and the reader.
 #[tactic(auto, using(crate::proofs::Refused::share_early, crate::proofs::Refused::share_late))]
+pub fn share_refusal(
+    n: usize,
+    bitmap_len: usize,
+    reader_frames_len: usize,
+    reader_owners_len: usize,
+    local_readers_len: usize,
+    records: usize,
+    reader: Reader,
+) -> Result<(), Refusal>
+    ensures { refused_number result ≡ share_length_refusal n bitmap_len reader_frames_len reader_owners_len local_readers_len records reader }
+{
+    slots::registry_refusal(
+        n,
+        bitmap_len,
+        reader_frames_len,
+        reader_owners_len,
+        local_readers_len,
+        records,
+    )?;
+    slots::check_reader(reader)
+}
+
+// The same of lent slots.
+#[tactic(auto, unfolding(crate::specs::Inner::share_refusal, crate::specs::Inner::share_length_refusal))]
 pub fn check_share(
     n: usize,
     slots: &SharedSlots<'_>,
@@ -97,8 +138,15 @@ pub fn check_share(
 ) -> Result<(), Refusal>
     ensures { refused_number result ≡ share_refusal n slots.now local_readers.now records reader }
 {
-    slots::check_registry(n, slots, local_readers, records)?;
-    slots::check_reader(reader)
+    share_refusal(
+        n,
+        slots.bitmap.len(),
+        slots.reader_frames.len(),
+        slots.reader_owners.len(),
+        local_readers.len(),
+        records,
+        reader,
+    )
 }
 
 impl Release {
@@ -115,6 +163,13 @@ impl Release {
         Release::Shared
     }
 
+    // Whether its slot and owner are the record's.
+    pub fn is_registered(self) -> bool
+        ensures { result ≡ is_known self }
+    {
+        !matches!(self, Release::Unregistered)
+    }
+
     // Whether it frees the slot.
     pub fn frees(self) -> bool
         ensures { result ≡ frees self }
@@ -127,13 +182,13 @@ impl Release {
 #[tactic(auto, unfolding(crate::specs::Inner::last_refusal))]
 fn check_last(
     mode: SharedWalOwnershipMode,
-    release: Release,
+    frees_slot: bool,
     owner: SharedOwnerRecord,
     owners: SlotOwners,
 ) -> Result<(), Refusal>
-    ensures { refused_number result ≡ last_refusal mode release owner.0 owners.shared.0 owners.local.0 }
+    ensures { refused_number result ≡ last_refusal mode frees_slot owner.0 owners.shared.0 owners.local.0 }
 {
-    if !release.frees() {
+    if !frees_slot {
         return Ok(());
     }
     if owners.local == SharedOwnerRecord::UNOWNED {
@@ -145,13 +200,13 @@ fn check_last(
     Ok(())
 }
 
-// Refusal 9, 10 or 12 of a release.
+// Refusal 9, 10 or 12 of a release, by its reader and whether the mark's record has this slot and owner.
 #[tactic(auto, using(crate::proofs::Refused::mark_early, crate::proofs::Refused::mark_unknown, crate::proofs::Refused::mark_known))]
-fn check_mark(reader: Reader, release: Release) -> Result<(), Refusal>
-    ensures { refused_number result ≡ mark_refusal reader.owner.0 reader.mark release }
+pub fn check_mark(reader: Reader, registered: bool) -> Result<(), Refusal>
+    ensures { refused_number result ≡ mark_refusal reader.owner.0 reader.mark registered }
 {
     slots::check_reader(reader)?;
-    if let Release::Unregistered = release {
+    if !registered {
         return Err(Refusal::NoSuchMark);
     }
     Ok(())
@@ -161,12 +216,13 @@ fn check_mark(reader: Reader, release: Release) -> Result<(), Refusal>
 #[tactic(auto, using(crate::proofs::Refused::unshare_early, crate::proofs::Refused::unshare_late))]
 pub fn check_unshare(
     mode: SharedWalOwnershipMode,
-    release: Release,
+    registered: bool,
+    frees_slot: bool,
     reader: Reader,
     owners: SlotOwners,
 ) -> Result<(), Refusal>
-    ensures { refused_number result ≡ unshare_refusal mode release reader.owner.0 reader.mark owners.shared.0 owners.local.0 }
+    ensures { refused_number result ≡ unshare_refusal mode registered frees_slot reader.owner.0 reader.mark owners.shared.0 owners.local.0 }
 {
-    check_last(mode, release, reader.owner, owners)?;
-    check_mark(reader, release)
+    check_last(mode, frees_slot, reader.owner, owners)?;
+    check_mark(reader, registered)
 }
