@@ -1,2 +1,3 @@
 -- Laws of the C functions of the index calls.
 mod LookupReplies
+mod SearchReplies

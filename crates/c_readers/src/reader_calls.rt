@@ -101,7 +101,7 @@ pub fn wal_unregister_reader(
         reader_frames,
         reader_owners,
     };
-    let answer = update::unregister_core(
+    let released = update::unregister_core(
         settings,
         &mut slots,
         local_readers,
@@ -109,7 +109,7 @@ pub fn wal_unregister_reader(
         SharedOwnerRecord(owner),
         in_registry,
     );
-    refusal::refusal_told(answer)
+    refusal::refusal_told(released)
 }
 
 // Makes the change of the registry that a shared registration plans, if it takes a slot.

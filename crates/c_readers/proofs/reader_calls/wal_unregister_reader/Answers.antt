@@ -7,4 +7,4 @@ use Rattle.c_readers.proofs.reader_calls.wal_unregister_reader.Goals as goal
 pub returns : goal.returns
 returns c =
     let a = c.args in
-    release_told refusal_number (λ n mode. unregister_reader n mode a.slot a.owner) (release_needs_slots _ _) _ _ _ c.settings_of-settings.ensures _ _ (c.refusal_told.ensures ∙ release_number _) _ _ _ c.slot_is_shared.ensures refl _ _ _ _ c.unregister_core-answer.ensures _ _ _ (search rules)
+    release_told refusal_number (λ n mode. unregister_reader n mode a.slot a.owner) (release_needs_slots _ _) _ _ _ c.settings_of-settings.ensures _ _ (c.refusal_told.ensures ∙ release_number _) _ _ _ c.slot_is_shared.ensures refl _ _ _ _ c.unregister_core-released.ensures _ _ _ (search rules)

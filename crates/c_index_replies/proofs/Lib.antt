@@ -1,0 +1,2 @@
+-- Laws of the replies.
+mod IndexReplies
