@@ -28,7 +28,7 @@ fn fill_columns(columns: &mut [u8], n: u64)
 }
 
 #[tactic(auto, unfolding(crate::specs::Answer::columns_before, crate::specs::Answer::in_columns, crate::specs::Answer::pair_line))]
-fn pair_line(page: u64, frame: u64) -> [u8; 26]
+pub fn pair_line(page: u64, frame: u64) -> [u8; 26]
     ensures { result ≡ pair_line page frame }
 {
     let mut line = [b' '; 26];
@@ -41,7 +41,7 @@ fn pair_line(page: u64, frame: u64) -> [u8; 26]
 
 // An answer's 12 columns stay blank where nothing was found, or the call was refused.
 #[tactic(auto, unfolding(crate::specs::Answer::columns_before, crate::specs::Answer::in_columns, crate::specs::Answer::answer_columns, crate::specs::Answer::answer_line))]
-fn answer_line(letter: u8, refusal: u32, answer: Option<u64>) -> [u8; 17]
+pub fn answer_line(letter: u8, refusal: u32, answer: Option<u64>) -> [u8; 17]
     ensures { result ≡ answer_line letter refusal answer }
 {
     let mut line = [b' '; 17];
@@ -52,6 +52,12 @@ fn answer_line(letter: u8, refusal: u32, answer: Option<u64>) -> [u8; 17]
     }
     line[16] = b'\n';
     line
+}
+
+pub fn other_form_line() -> [u8; 2]
+    ensures { result ≡ other_form_line }
+{
+    *b"?\n"
 }
 
 pub fn write_answer<W: Write>(
@@ -74,5 +80,5 @@ pub fn write_pair<W: Write>(out: &mut W, page: u64, frame: u64) -> io::Result<()
 pub fn write_other_form<W: Write>(out: &mut W) -> io::Result<()>
     ensures { OnOk result (Appends (W.contents out.old) (W.contents out.new) other_form_line) }
 {
-    out.write_all(b"?\n")
+    out.write_all(&other_form_line())
 }

@@ -45,9 +45,12 @@ fn first_digit(field: &[u8]) -> Option<usize>
 }
 
 #[tactic(auto, using(crate::proofs::Fields::only_blanks, crate::proofs::Fields::behind_first), unfolding(crate::specs::Field::field_of))]
-pub fn read_field(field: &[u8; 12]) -> Option<u64>
+pub fn read_field(field: &[u8]) -> Option<u64>
     ensures { result ≡ field_of field.now }
 {
+    if field.len() != 12 {
+        return None;
+    }
     let first = first_digit(field)?;
     plain_number(&field[first..])
 }

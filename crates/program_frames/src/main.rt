@@ -11,15 +11,11 @@ use program_lines::input::answer_lines;
 use std::io;
 
 // One byte more than the longest form, F's 37: a longer line is cut, and its 38 bytes are no form.
-const LINE_LIMIT: u64 = 38;
+const LINE_LIMIT: usize = 38;
 
 fn main(rt: HostRuntime) -> io::Result<()> {
     let mut index = Index::new();
-    answer_lines(
-        rt.alloc(),
-        rt.stdin(),
-        rt.stdout(),
-        LINE_LIMIT,
-        |line, out| { answers::perform(out, &mut index, read_request(line)) },
-    )
+    answer_lines(rt.stdin(), rt.stdout(), &mut [0; LINE_LIMIT], |line, out| {
+        answers::perform(out, &mut index, read_request(line))
+    })
 }

@@ -11,34 +11,45 @@ mod calls;
 mod header_calls;
 mod reader_calls;
 
+use calls::Answer;
 use program_lines::input::answer_lines;
 use program_lines::line::number;
-use std::alloc::{AllocError, Global};
 use std::io;
 use std::io::Write;
 
-// A row has at most 18 numbers of 20 digits: a line that is cut to so many bytes is none.
-const LINE_LIMIT: u64 = 1024;
+// The longest row, of publish_commit.
+const ROW_LEN: usize = 18;
 
-// The numbers of a row.
-fn numbers(alloc: Global, line: &[u8]) -> Result<Option<Vec<u64>>, AllocError> {
-    line.split(|b| *b == b' ').map(number).collect(alloc)
+// A row has at most 18 numbers of 20 digits: a line that is cut to so many bytes is none.
+const LINE_LIMIT: usize = 1024;
+
+// Makes the call of a line, whose numbers go into an array: nothing is allocated. None: no call has so many, or a field is
+// no number.
+fn perform(line: &[u8]) -> Option<Answer> {
+    let mut row = [0; ROW_LEN];
+    let mut len = 0;
+    for field in line.split(|b| *b == b' ') {
+        if len == ROW_LEN {
+            return None;
+        }
+        row[len] = number(field)?;
+        len += 1;
+    }
+    calls::perform(&row[..len])
 }
 
-fn answer<W: Write>(alloc: Global, out: &mut W, line: &[u8]) -> io::Result<()> {
+fn answer<W: Write>(out: &mut W, line: &[u8]) -> io::Result<()> {
     if line.starts_with(b"#") {
         return Ok(());
     }
-    let row = numbers(alloc, line)?;
-    match row.and_then(|row| calls::perform(&row)) {
+    match perform(line) {
         Some(answer) => writeln!(out, "{answer}"),
         None => writeln!(out, "?"),
     }
 }
 
 fn main(rt: HostRuntime) -> io::Result<()> {
-    let alloc = rt.alloc();
-    answer_lines(alloc, rt.stdin(), rt.stdout(), LINE_LIMIT, |line, out| {
-        answer(alloc, out, line)
+    answer_lines(rt.stdin(), rt.stdout(), &mut [0; LINE_LIMIT], |line, out| {
+        answer(out, line)
     })
 }

@@ -5,31 +5,46 @@
 
 mod block;
 
+ghost use Rattle.std.specs.Prelude.{◌≤◌, length, IfOk};
+
 use block::Block;
-use std::alloc::Global;
 use std::io;
-use std::io::{BufReader, Read};
+use std::io::Read;
 
 // So many bytes are read. A line that ends no sooner may be cut, and is left out.
 const TEXT_LEN: usize = 65536;
 
-fn read_block<R: Read + Drop>(alloc: Global, source: R) -> io::Result<Block> {
-    let reader = BufReader::with_capacity(alloc, TEXT_LEN, source)?;
-    let mut text = Vec::new(alloc);
-    reader.take(TEXT_LEN as u64).read_to_end(&mut text)?;
-    let mut lines = text.split(|b| *b == b'\n');
-    if text.len() == TEXT_LEN {
+// Reads until the text is full or the input ends, and answers how many bytes it has. (`read_to_end` would allocate.)
+fn read_text<R: Read>(source: &mut R, text: &mut [u8]) -> io::Result<usize>
+    ensures { IfOk result (λ len. len ≤ length text.new) }
+{
+    let mut len = 0;
+    while len < text.len() {
+        let got = source.read(&mut text[len..])?;
+        if got == 0 {
+            break;
+        }
+        len += got;
+    }
+    Ok(len)
+}
+
+fn read_block<R: Read>(source: &mut R) -> io::Result<Block> {
+    let mut text = [0; TEXT_LEN];
+    let len = read_text(source, &mut text)?;
+    let mut lines = text[..len].split(|b| *b == b'\n');
+    if len == TEXT_LEN {
         lines.next_back();
     }
-    let mut block = Block::new(alloc);
+    let mut block = Block::new();
     for line in lines {
-        block.take_line(line)?;
+        block.take_line(line);
     }
     Ok(block)
 }
 
 fn main(rt: HostRuntime) -> io::Result<()> {
-    let block = read_block(rt.alloc(), rt.stdin())?;
+    let block = read_block(&mut rt.stdin())?;
     let entries = block.entries();
     let differences = block.differences();
     println!(rt; "{entries} entries, {differences} differences")

@@ -1,0 +1,3 @@
+-- Steps of a buffer of a fixed size, and of reading a number.
+pub mod Windows
+pub mod Digits

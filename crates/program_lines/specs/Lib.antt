@@ -1,0 +1,4 @@
+-- The buffer of answers that wait, and the numbers of a line.
+pub mod InnerWindow
+pub mod InnerOutput
+pub mod InnerLine
