@@ -1,22 +1,15 @@
-"""Rattle to Rust, word for word: contracts go, a slice of a C function is a pointer and a length, and what allocates is
-given no allocator. What is proved of the Rattle holds no more of the Rust: it serves to run edited sources, which nothing
-proves.
+"""Rattle to Rust, word for word: contracts go, and a slice of a C function is a pointer and a length. What is proved of
+the Rattle holds no more of the Rust: it serves to run edited sources, which nothing proves.
 """
 
 import re
 from pathlib import Path
 
-# What Rattle's std offers: the handle of a program that allocates, reads and writes, each read and write of which is one of
-# the system's.
-STD = """pub mod alloc {
-    #[derive(Clone, Copy)]
-    pub struct Global;
-}
-
-pub struct HostRuntime;
+# What Rattle's std offers: the handle of a program that reads and writes, each read and write of which is one of the
+# system's.
+STD = """pub struct HostRuntime;
 
 impl HostRuntime {
-    pub fn alloc(&self) -> alloc::Global { alloc::Global }
     pub fn stdin(&self) -> &'static std::fs::File { file(0) }
     pub fn stdout(&self) -> &'static std::fs::File { file(1) }
 }
@@ -36,8 +29,7 @@ EXPORTED = re.compile(
     r'#\[unsafe\(no_mangle\)\]\s*pub extern "C" fn (\w+)_in_rattle\(([^)]*)\)\s*(->\s*[^{]*)?\{'
 )
 MAIN = re.compile(r"\bfn main\((\w+): HostRuntime\)([^{]*)\{")
-# What allocates is given an allocator and tells whether memory ran out, and what is given by value is bound to be dropped.
-ALLOCATED = re.compile(r"\b(Vec|BufReader|BufWriter)::(\w+)\(alloc(?:,\s*)?([^;]*?)\)\??;")
+# What is given by value is bound to be dropped.
 DROPPED = re.compile(r"\s*\+ Drop\b")
 SLICE = re.compile(r"&(mut )?\[([^;\]]+)\]")
 
@@ -98,8 +90,7 @@ def rust(text):
     text = without_clauses(TACTIC.sub("", text))
     text = DERIVED.sub(derived, text)
     text = re.sub(r"\bprove!", "debug_assert!", text)
-    text = ALLOCATED.sub(r"\1::\2(\3);", DROPPED.sub("", text))
-    text = re.sub(r"\bstd::(?=alloc::)", "rattle_std::", text)
+    text = DROPPED.sub("", text)
     text = MAIN.sub(r"fn main()\2{ let \1 = rattle_std::HostRuntime;", text)
     return exported(text)
 
