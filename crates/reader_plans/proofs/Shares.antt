@@ -139,7 +139,7 @@ module _ (settings : ReaderSettings) (reader : Reader) (bytes : List ℕ) (slots
                   ∙ rw ((here r (s, q)).0, (here r (s, q)).1, below),
             )
 
-      -- share_joined has answered, by what is said of the card
+      -- try_share_joined has answered, by what is said of the card
       module _ (card : Result Unit Refusal) (by_card : refused_number card ≡ card_refusal n bytes) where
         pub joined_refused : (k : Refusal) → number k ≡ joined_refusal item card → Means slots l (Err k)
         joined_refused k e = go (leb most_holders item.holders) refl e

@@ -56,7 +56,7 @@ pub fn share_plan(
     let card_refusal = slots::check_card(settings.n, card);
     let free = match registry.seen {
         Seen::Shared { place, item } => {
-            let plan = shared::share_joined(place, item, reader.mark, card_refusal)?;
+            let plan = shared::try_share_joined(place, item, reader.mark, card_refusal)?;
             return Ok(Some(plan));
         }
         Seen::New { free } => free,

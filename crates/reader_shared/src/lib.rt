@@ -2,3 +2,5 @@
 #![tactic(auto)]
 
 pub mod shared;
+#[cfg(test)]
+mod tests;

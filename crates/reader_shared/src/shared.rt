@@ -36,9 +36,25 @@ pub enum Release {
     Last,
 }
 
-// A mark that has the record item, in this place: it is retained, unless it has 65,535 holders or the card is refused.
+// A mark that has the record item, in this place: it is retained.
+pub fn share_joined(place: usize, item: SharedReadMark, mark: u64) -> SharePlan
+    ensures { result ≡ shares_joined place item mark }
+{
+    SharePlan {
+        taken: SharedSlot {
+            slot: item.slot,
+            reader: Reader {
+                owner: item.owner,
+                mark,
+            },
+        },
+        change: RecordChange::Retained(place),
+    }
+}
+
+// The same, unless the record has 65,535 holders or the card is refused.
 #[tactic(auto, using(crate::proofs::Plans::joined_full, crate::proofs::Plans::joined_bad_card, crate::proofs::Plans::joined_kept))]
-pub fn share_joined(
+pub fn try_share_joined(
     place: usize,
     item: SharedReadMark,
     mark: u64,
@@ -49,16 +65,7 @@ pub fn share_joined(
 {
     check_room(item)?;
     card?;
-    Ok(SharePlan {
-        taken: SharedSlot {
-            slot: item.slot,
-            reader: Reader {
-                owner: item.owner,
-                mark,
-            },
-        },
-        change: RecordChange::Retained(place),
-    })
+    Ok(share_joined(place, item, mark))
 }
 
 // A new mark, by the slot that was taken for it: a record is published for it, in the empty place free. Without a slot
